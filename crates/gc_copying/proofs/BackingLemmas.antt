@@ -1,5 +1,5 @@
 -- What is seen of a heap by where it has its memory.
-use Rattle.std.proofs.Common.{drop, take, ◌≡◌, ℕ, ◌*◌, ◌%◌, ◌≤◌, ◌++◌, false, cond, List, length, replicate, Option, Some, None, refl, sym, ap, subst, ◌∙◌, inl, inr, arith}
+use Rattle.std.proofs.Common.{drop, take, ◌≡◌, ℕ, ◌*◌, ◌%◌, ◌≤◌, ◌++◌, true, false, cond, List, length, replicate, Option, Some, None, refl, sym, ap, subst, ◌∙◌, inl, inr, arith}
 use Rattle.std.proofs.Math.Logic.{◌⊎◌}
 use Rattle.std.specs.Ordering.{nat_cmp, eq_by_cmp}
 use Rattle.std.specs.Cmp.{unsigned_tied, nat_cmp_total}
@@ -16,6 +16,8 @@ use Rattle.gc_heap.specs.Lying.{LiesIn}
 use Rattle.gc_heap.specs.Objects.{IsObjectData}
 use Rattle.gc_heap.specs.Heap.{put_object, grown}
 use Rattle.gc_heap.specs.Barriers.{raise, lower, show, cloned, dropped, exposed, copied, emptied, overwritten}
+use Rattle.gc_heap.proofs.MemoryLemmas as memory
+use Rattle.gc_heap.specs.Backings.{IsAttached, Gives, Takes}
 use Rattle.gc_copying.specs.Layout.{first_place, places_in}
 use Rattle.gc_copying.specs.Growth.{bump_in_more}
 use Rattle.gc_copying.proofs.ObjectLemmas.{len-at}
@@ -24,8 +26,9 @@ use Rattle.gc_copying.specs.States.{IsBacked, seen_in, seen_of, copying_seen, Is
 use Rattle.gc_copying.specs.declared.space.Space.{Space}
 use Rattle.gc_copying.specs.declared.growth.Marks.{Marks}
 use Rattle.gc_copying.specs.declared.heap.CopyingHeap.{CopyingHeap}
-use Rattle.gc_copying.specs.declared.heap.Backing.{Backing}
-use Rattle.gc_copying.specs.declared.heap.Backing.TheVariants as backing
+use Rattle.gc_copying.specs.Backed.{Backing, marks_of}
+use Rattle.gc_copying.specs.Content.{IsSpace, space_view}
+use Rattle.gc_heap.specs.declared.backing.Backing.TheVariants as backing
 use Rattle.gc_copying.proofs.GrowLemmas.{grows}
 use Rattle.gc_copying.proofs.ReadLemmas.{HeldAt, held_at, size_of, data_of, host_of}
 
@@ -35,12 +38,11 @@ not_attached scopes backing.Detached never = refl
 not_attached scopes (backing.Attached s) never = absurd (never s refl)
 not_attached scopes (backing.Taken m) never = refl
 
-nothing_empty : (q : ℕ) (o : HeapObject) → finite.get (finite.empty {X = HeapObject} {R = nat_cmp}) q ≡ Some o → ⊥
-nothing_empty q o e = cc (finite.get-empty nat_cmp q)
-
 -- and it holds nothing
 pub nothing_held : (scopes : ℕ) (b : Backing) (q : ℕ) (o : HeapObject) → ((s : Space) → b ≡ backing.Attached s → ⊥) → finite.get (seen_of scopes b).content q ≡ Some o → ⊥
-nothing_held scopes b q o never held = nothing_empty q o (sym (ap (λ (h : HeapView). finite.get h.content q) (not_attached scopes b never)) ∙ held)
+nothing_held scopes b q o never held =
+    let none = not_attached scopes b never in
+    memory.nothing_held (seen_of scopes b) q o (none ∙ ap detached_in (sym (ap (λ (h : HeapView). h.scopes) none))) held
 
 attached_at : (h : CopyingHeap) (s : Space) (q : ℕ) (o : HeapObject) → h.backing ≡ backing.Attached s → IsCopyingSound h → finite.get (copying_seen h).content q ≡ Some o → HeldAt s.memory s.upper s.bump q o
 attached_at h s q o is sound held =
@@ -117,10 +119,6 @@ put_same h q o held = ap (λ m. record h { content = m }) (finite.same_map nat_c
       | inr other ↦ sym (at ∙ ap (λ t. cond t (Some o) (finite.get h.content r)) (unsigned_tied r q ∙ ne_eqb r q other))
     ]))
 
--- no object is named by a number
-pub held_even : (h : CopyingHeap) (q : ℕ) (o : HeapObject) → IsCopyingSound h → finite.get (copying_seen h).content q ≡ Some o → q % 2 ≡ 1 → ⊥
-held_even h q o s held odd = let l = (copying_is_heap h s).objects q o held in omega (arith, l.aligned)
-
 -- as many objects as are counted
 pub count_of : (scopes : ℕ) (s : Space) → IsSound s → s.objects ≡ finite.len (seen_in scopes s).content
 count_of scopes s sound = sound.count ∙ sym (len-at s.memory (first_place (length s.memory) s.upper) s.bump (places_in s.memory s.upper s.bump) sound.chain)
@@ -149,3 +147,38 @@ pub nothing_counted : (scopes : ℕ) (b : Backing) (q n : ℕ) → finite.get (s
 nothing_counted scopes backing.Detached q n e = cc (finite.get-empty nat_cmp q)
 nothing_counted scopes (backing.Attached s) q n e = cc (finite.get-empty nat_cmp q)
 nothing_counted scopes (backing.Taken m) q n e = cc (finite.get-empty nat_cmp q)
+
+-- a heap that is attached has its memory in place
+false_not_true : false ≡ true → ⊥
+false_not_true e = cc
+
+pub attached : (scopes : ℕ) (b : Backing) → (seen_of scopes b).attached ≡ true → IsAttached b
+attached scopes backing.Detached e = false_not_true e
+attached scopes (backing.Attached s) e = tt
+attached scopes (backing.Taken m) e = false_not_true e
+
+-- the memory that is given away has all bytes of the heap
+pub given_size : (scopes : ℕ) (b : Backing) (bytes : List ℕ) → Gives (λ (s : Space). s.memory) b bytes → length bytes ≡ (seen_of scopes b).capacity
+given_size scopes backing.Detached bytes given = absurd given
+given_size scopes (backing.Attached s) bytes given = ap length given
+given_size scopes (backing.Taken m) bytes given = absurd given
+
+-- What a heap is whose memory was handed out.
+pub record HandsOut (scopes : ℕ) (b after : Backing) (bytes : List ℕ) : Type 0 where
+  pub out : IsOut scopes after (seen_of scopes b) bytes
+  pub size : length bytes ≡ (seen_of scopes b).capacity
+  pub none : (seen_of scopes after).attached ≡ false
+
+pub hands_out : (scopes : ℕ) (b after : Backing) (bytes : List ℕ) → IsBacked b → Takes (λ (s : Space). s.memory) marks_of b after bytes → HandsOut scopes b after bytes
+hands_out scopes backing.Detached after bytes sound t = absurd t
+hands_out scopes (backing.Attached s) after bytes sound t = record {
+  out = out_of s sound t.0 t.1;
+  size = ap length t.0;
+  none = ap (λ a. (seen_of scopes a).attached) t.1;
+}
+  where
+    out_of : (s : Space) → IsSound s → bytes ≡ s.memory → after ≡ backing.Taken (marks_of s) → IsOut scopes after (seen_in scopes s) bytes
+    out_of s sound bytes_are is =
+        subst (λ a. IsOut scopes a (seen_in scopes s) bytes) (sym is)
+        (subst (λ m. IsSpace m s.upper s.bump s.externals s.objects × (seen_in scopes s ≡ space_view m s.upper s.bump scopes)) (sym bytes_are) (sound, refl))
+hands_out scopes (backing.Taken m) after bytes sound t = absurd t

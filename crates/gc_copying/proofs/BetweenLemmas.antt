@@ -16,8 +16,8 @@ use Rattle.gc_heap.specs.declared.collection.GcProgress.TheVariants as progress
 use Rattle.gc_view.specs.Heaps.{HeapView}
 use Rattle.gc_copying.specs.declared.space.Space.{Space}
 use Rattle.gc_copying.specs.declared.heap.CopyingHeap.{CopyingHeap}
-use Rattle.gc_copying.specs.declared.heap.Backing.{Backing}
-use Rattle.gc_copying.specs.declared.heap.Backing.TheVariants as backing
+use Rattle.gc_copying.specs.Backed.{Backing}
+use Rattle.gc_heap.specs.declared.backing.Backing.TheVariants as backing
 use Rattle.gc_copying.specs.declared.copy.collect.Phase.{Phase}
 use Rattle.gc_copying.specs.declared.copy.collect.Phase.TheVariants as phase
 use Rattle.gc_copying.specs.Spaces.{half_first, half_end}

@@ -26,7 +26,6 @@ pub mod ScanLemmas
 pub mod SpaceLemmas
 pub mod StartLemmas
 pub mod SweepLemmas
-pub mod TraceLemmas
 pub mod WorkLemmas
 pub mod WriteLemmas
 pub mod Walks

@@ -1,5 +1,5 @@
 -- The objects that an allocation makes.
-use Rattle.std.proofs.Common.{◌≡◌, ℕ, ◌+◌, ◌-◌, ◌*◌, ◌%◌, ◌<◌, ◌≤◌, ◌^◌, Bool, true, false, List, [], ◌∷◌, ◌++◌, take, drop, length, replicate, refl, sym, ap, subst, ◌∙◌, inl, inr, arith}
+use Rattle.std.proofs.Common.{◌≡◌, ℕ, ◌+◌, ◌-◌, ◌*◌, ◌%◌, ◌<◌, ◌≤◌, ◌^◌, Bool, true, false, List, [], ◌∷◌, ◌++◌, take, drop, length, replicate, refl, sym, ap, ap₂, subst, ◌∙◌, inl, inr, arith}
 use Rattle.std.specs.Prelude.{All}
 use Rattle.std.proofs.Math.Logic.{◌⊎◌}
 use Rattle.std.specs.Int.{w32, to_le_bytes}
@@ -10,6 +10,7 @@ use Rattle.gc_types.specs.declared.kind.VMGcKind.{VMGcKind}
 use Rattle.gc_types.specs.declared.kind.VMGcKind.TheVariants.{ExternRef, AnyRef, EqRef, StructRef, ArrayRef, ExnRef}
 use Rattle.gc_types.specs.Kinds.{kind_bits, kind_of}
 use Rattle.gc_types.proofs.KindLemmas.{kind_of-kind_bits, same_kind}
+use Rattle.gc_types.specs.declared.layout.GcArrayLayout.{GcArrayLayout}
 use Rattle.gc_types.specs.Layouts.{round_up}
 use Rattle.gc_refs.specs.Header.{Header, header_of, spare_bits, kind_part, IsOfKind}
 use Rattle.gc_tables.specs.SideTables.{max_entries}
@@ -23,16 +24,21 @@ use Rattle.gc_view.specs.Bytes.{put_bytes}
 use Rattle.gc_view.proofs.ByteLemmas.{part_in_same, part-put_bytes, part-put_bytes_inside}
 use Rattle.gc_view.specs.Bytes.{u32_at, put_u32}
 use Rattle.gc_view.specs.Heaps.{HeapObject, HeapView, no_counts}
-use Rattle.gc_heap.specs.Heap.{AddsObject, LacksRoom, CanAllocate}
+use Rattle.gc_heap.specs.Heap.{AddsObject, LacksRoom, CanAllocate, array_size}
+use Rattle.gc_heap.specs.Making.{CanMake, made, with_word}
+use Rattle.gc_heap.specs.declared.new_object.FirstWord.{FirstWord}
+use Rattle.gc_heap.specs.declared.new_object.FirstWord.TheVariants as begin
+use Rattle.gc_heap.proofs.MakingLemmas.{array_least, not_external, object_kind_of}
 use Rattle.gc_refs.specs.Trace.{form_of}
 use Rattle.gc_heap.specs.Objects.{held_size, first_offset, zeroed, zeroed_array, external, IsObjectKind, HasFields}
 use Rattle.gc_heap.specs.References.{bitmap_offsets}
-use Rattle.gc_heap.specs.Rules.{SpareFits, array_spare}
+use Rattle.gc_heap.specs.Rules.{ArrayTraces, SpareFits, array_spare}
 use Rattle.gc_heap.specs.Content.{IsSpare}
 use Rattle.gc_copying.specs.Spaces.{half_start, half_end}
 use Rattle.gc_copying.specs.Layout.{first_place, places_in, size_at, kind_at, data_at, object_at}
 use Rattle.gc_copying.specs.Content.{Linked, last, link, space_view, IsExternalAt, IsWhole, IsSpace}
 use Rattle.gc_copying.specs.HeapLaws.{nothing, sixteen, skips, half_lies, first_aligned, lies_in_space}
+use Rattle.gc_copying.specs.Linking.{link_end, with_link}
 use Rattle.gc_copying.specs.declared.place.Room.TheVariants as room
 use Rattle.gc_copying.specs.States.{IsSound, seen_in}
 use Rattle.gc_copying.specs.declared.space.Space.{Space}
@@ -75,17 +81,6 @@ data_by_fields b p EqRef h = absurd h
 data_by_fields b p StructRef h = refl
 data_by_fields b p ArrayRef h = refl
 data_by_fields b p ExnRef h = refl
-
-pub object_kind_of : (k : VMGcKind) → HasFields k → IsObjectKind k
-object_kind_of ExternRef h = absurd h
-object_kind_of AnyRef h = h
-object_kind_of EqRef h = h
-object_kind_of StructRef h = h
-object_kind_of ArrayRef h = h
-object_kind_of ExnRef h = h
-
-not_external : (k : VMGcKind) → HasFields k → k ≡ ExternRef → ⊥
-not_external k h e = subst HasFields e h
 
 -- an object that is known is whole
 pub whole_of : (b : List ℕ) (p : ℕ) (o : HeapObject) → object_at b p ≡ o → IsOfKind o.kind (word b p) → IsObjectKind o.kind → first_offset Copying o.kind ≤ size_at b p
@@ -415,3 +410,35 @@ makes_external old mid new m n place block id s found w moved is first second at
     ∙ ap (λ q. record old { memory = n; bump = old.bump + block; externals = q; objects = old.objects + 1 }) at) at
     (makes old.memory n old.upper old.bump old.externals old.bump old.objects 24 block (external id) s (omega arith) found
     (subst (PutsObject old.memory n old.bump (external id)) (sym rounded) made.puts) (inr (made.kind, (refl, made.next))))
+
+elements_fit : (layout : GcArrayLayout) (count : ℕ) → ArrayTraces Copying layout → layout.elems_are_gc_refs ≡ true → 16 + count * 4 ≤ array_size layout count
+elements_fit layout count traces e =
+    let t = traces e in
+    subst (λ w. 16 + count * 4 ≤ layout.base_size + count * w) (sym t.1) (omega (arith, t.0))
+
+-- the link of an external object lies in it
+pub link_fits : (h : Header) (word : FirstWord) (size : ℕ) → CanMake Copying h word size → link_end word ≤ size
+link_fits h begin.Zero size can = omega arith
+link_fits h (begin.Length count) size can = omega arith
+link_fits h (begin.Host id) size can = omega (arith, can.1)
+
+-- an object was made of a header and a first word
+pub makes_made : (old mid new : Space) (place block size : ℕ) (h : Header) (word : FirstWord) (k : VMGcKind) → IsSound old → CanMake Copying h word size
+    → ((id : ℕ) → word ≡ begin.Host id → id + 1 ≤ max_entries) → ((scopes : ℕ) → FindsRoom (seen_in scopes old) size (room.Fits block))
+    → WritesBlock old.memory mid.memory old.bump h block → mid ≡ record old { memory = mid.memory; bump = old.bump + block; objects = old.objects + 1 }
+    → new ≡ with_link (record mid { memory = with_word Copying mid.memory place word }) place word → place ≡ old.bump → IsOfKind k h.kind_word
+    → MakesObject old new place (made Copying k h word size) size
+makes_made old mid new place block size h begin.Zero k s can bound found w moved is at kind =
+    subst (λ (x : Space). MakesObject old x place (made Copying k h begin.Zero size) size) (sym is) (makes_zeroed old mid place block size h k s can found w moved at kind)
+makes_made old mid new place block size h (begin.Length count) k s can bound found w moved is at kind =
+    let least : 16 ≤ size = subst (λ n. 16 ≤ n) (sym can.size_is) (array_least can.layout count 16 can.least) in
+    subst (λ (n : ℕ). MakesObject old new place (zeroed_array Copying h.type_word n count size) size) (sym can.spare)
+    (makes_array old mid new (put_u32 mid.memory (place + 12) count) place block size h.type_word count h can.layout.elems_are_gc_refs s found w moved is
+    (ap (λ p. put_u32 mid.memory (p + 12) count) at) at can.is_kind refl can.spare can.small least
+    (λ e. subst (λ n. 16 + count * 4 ≤ n) (sym can.size_is) (elements_fit can.layout count can.traces e)))
+makes_made old mid new place block size h (begin.Host id) k s can bound found w moved is at kind =
+    let m : List ℕ = put_u32 mid.memory (place + 16) (id + 1) in
+    let head : mid.externals ≡ old.externals = ap (λ (x : Space). x.externals) moved in
+    subst (λ (n : ℕ). MakesObject old new place (external id) n) (sym can.1)
+    (makes_external old mid new m (put_u32 m (place + 20) mid.externals) place block id s (λ scopes. subst (λ n. FindsRoom (seen_in scopes old) n (room.Fits block)) can.1 (found scopes))
+    (subst (λ x. WritesBlock old.memory mid.memory old.bump x block) can.0 w) moved is (ap (λ p. put_u32 mid.memory (p + 16) (id + 1)) at) (ap₂ (λ p e. put_u32 m (p + 20) e) at head) at (bound id refl))

@@ -7,8 +7,8 @@ use Rattle.gc_roots.specs.Roots.{Root}
 use Rattle.gc_heap.specs.Collection.{Start, CanCollect}
 use Rattle.gc_copying.specs.declared.space.Space.{Space}
 use Rattle.gc_copying.specs.declared.heap.CopyingHeap.{CopyingHeap}
-use Rattle.gc_copying.specs.declared.heap.Backing.{Backing}
-use Rattle.gc_copying.specs.declared.heap.Backing.TheVariants as backing
+use Rattle.gc_copying.specs.Backed.{Backing}
+use Rattle.gc_heap.specs.declared.backing.Backing.TheVariants as backing
 use Rattle.gc_copying.specs.declared.copy.collect.Phase.{Phase}
 use Rattle.gc_copying.specs.declared.copy.collect.Phase.TheVariants as phase
 use Rattle.gc_copying.specs.Content.{space_view, IsSpace}

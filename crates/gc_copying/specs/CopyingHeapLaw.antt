@@ -5,8 +5,8 @@ use Rattle.gc_heap.specs.Content.{IsHeap}
 use Rattle.gc_copying.specs.HeapLaws.{space_is_heap, detached_is_heap}
 use Rattle.gc_copying.specs.States.{seen_of, copying_seen, IsBacked, IsCopyingSound}
 use Rattle.gc_copying.specs.declared.heap.CopyingHeap.{CopyingHeap}
-use Rattle.gc_copying.specs.declared.heap.Backing.{Backing}
-use Rattle.gc_copying.specs.declared.heap.Backing.TheVariants as backing
+use Rattle.gc_copying.specs.Backed.{Backing}
+use Rattle.gc_heap.specs.declared.backing.Backing.TheVariants as backing
 
 backed_is_heap : (scopes : ℕ) (b : Backing) → IsBacked b → scopes < 2 ^ 64 → IsHeap Copying (seen_of scopes b)
 backed_is_heap scopes backing.Detached backed below = detached_is_heap scopes below

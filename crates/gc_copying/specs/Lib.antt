@@ -1,3 +1,4 @@
+pub mod Backed
 pub mod CollectionLaw
 pub mod Content
 pub mod CopyBetween
@@ -12,6 +13,7 @@ pub mod CopyingHeapLaw
 pub mod Growth
 pub mod HeapLaws
 pub mod Layout
+pub mod Linking
 pub mod ObjectLaws
 pub mod Placing
 pub mod Spaces

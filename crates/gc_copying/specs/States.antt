@@ -5,8 +5,8 @@ use Rattle.gc_view.specs.Heaps.{HeapView, detached_in}
 use Rattle.gc_copying.specs.Content.{space_view, IsSpace}
 use Rattle.gc_copying.specs.declared.space.Space.{Space}
 use Rattle.gc_copying.specs.declared.heap.CopyingHeap.{CopyingHeap}
-use Rattle.gc_copying.specs.declared.heap.Backing.{Backing}
-use Rattle.gc_copying.specs.declared.heap.Backing.TheVariants as backing
+use Rattle.gc_copying.specs.Backed.{Backing}
+use Rattle.gc_heap.specs.declared.backing.Backing.TheVariants as backing
 
 -- what is seen of a space of a heap with so many scopes
 abbrev pub seen_in : ℕ → Space → HeapView

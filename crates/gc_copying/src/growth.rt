@@ -8,7 +8,7 @@ ghost use Rattle.gc_copying.specs.Growth.{bump_in_more};
 ghost use Rattle.gc_copying.specs.States.{IsSound, seen_in};
 
 use crate::space::{SKIPPED, Space};
-use gc_heap::HeapMemory;
+use gc_heap::{HeapMemory, HeapSpace};
 
 /// What a heap knows of its memory while that is out.
 #[derive(Clone, Copy, Debug, PartialEq, Eq)]
@@ -42,11 +42,18 @@ impl Space {
             objects: 0,
         }
     }
+}
 
-    /// Takes the memory out.
-    pub(crate) fn into_memory(self) -> (HeapMemory, Marks)
-        ensures { result ≡ (self.memory, record { upper = self.upper; bump = self.bump; externals = self.externals; objects = self.objects }) }
-    {
+impl HeapSpace for Space {
+    ghost use Rattle.gc_copying.specs.Backed.{marks_of};
+
+    type Marks = Marks;
+
+    ghost memory = { λ s. s.memory };
+
+    ghost marks = { marks_of };
+
+    fn into_memory(self) -> (HeapMemory, Marks) {
         let marks = Marks {
             upper: self.upper,
             bump: self.bump,

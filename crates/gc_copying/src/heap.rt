@@ -23,34 +23,23 @@ ghost use Rattle.gc_copying.specs.CopyBetween.{Between};
 use crate::collection::CopyingCollection;
 use crate::copy::collect::Phase;
 use crate::growth::Marks;
-use crate::place;
 use crate::space::Space;
 use crate::ticks::Ticks;
-use gc_heap::{GcHeap, GcProgress, GcStoreTraceState, HeapFault, HeapKind, HeapMemory, read};
-use gc_refs::{RefFault, VMArrayRef, VMExternRef, VMGcHeader, VMGcObjectData, VMGcRef};
+use gc_heap::{
+    Backing, FirstWord, GcHeap, GcProgress, GcStoreTraceState, HeapFault, HeapKind, HeapMemory,
+};
+use gc_refs::{RefFault, VMArrayRef, VMGcHeader, VMGcRef};
 use gc_roots::GcRootsList;
 use gc_steps::Steps;
-use gc_tables::ExternRefHostDataId;
-use gc_types::{GcArrayLayout, GcStructLayout, Layouts, VMSharedTypeIndex};
+use gc_types::Layouts;
 use std::alloc::Global;
 use std::marker::Brand;
-use std::mem;
-use std::ops::Range;
 use std::sync::ledger::{Blank, Ledger};
-
-/// Where a heap has its memory.
-#[derive(Drop)]
-pub(crate) enum Backing {
-    Detached,
-    Attached(Space),
-    /// The memory is out, so that it can grow.
-    Taken(Marks),
-}
 
 /// A heap whose collection copies what is reached.
 #[derive(Drop)]
 pub struct CopyingHeap {
-    backing: Backing,
+    backing: Backing<Space, Marks>,
     scopes: u64,
 }
 
@@ -173,16 +162,11 @@ impl GcHeap for CopyingHeap {
         CopyingHeap::new(alloc)
     }
 
-    fn is_too_large(size: u32) -> bool {
-        place::is_too_large(size)
-    }
-
-    fn need(size: u32) -> u64 {
-        place::need(size)
-    }
-
-    fn is_attached(&self) -> bool {
-        matches!(self.backing, Backing::Attached(_))
+    fn memory(&self) -> Option<&HeapMemory> {
+        match &self.backing {
+            Backing::Attached(space) => Some(&space.memory),
+            _ => None,
+        }
     }
 
     fn attach(&mut self, memory: HeapMemory) -> Result<(), HeapMemory> {
@@ -192,30 +176,18 @@ impl GcHeap for CopyingHeap {
 
     fn detach(&mut self) -> HeapMemory {
         self.scopes = 0;
-        match mem::replace(&mut self.backing, Backing::Detached) {
-            Backing::Attached(space) => space.memory,
-            _ => unreachable!(),
-        }
+        self.backing.detach()
     }
 
     fn take_memory(&mut self) -> HeapMemory {
-        match mem::replace(&mut self.backing, Backing::Detached) {
-            Backing::Attached(space) => {
-                let (memory, marks) = space.into_memory();
-                self.backing = Backing::Taken(marks);
-                memory
-            }
-            _ => unreachable!(),
-        }
+        self.backing.take()
     }
 
     fn replace_memory(&mut self, memory: HeapMemory, delta_bytes_grown: u64) {
-        match self.backing {
-            Backing::Taken(marks) => {
-                self.backing = Backing::Attached(marks.with_memory(memory));
-            }
-            _ => unreachable!(),
-        }
+        let Backing::Taken(marks) = self.backing else {
+            unreachable!()
+        };
+        self.backing = Backing::Attached(marks.with_memory(memory));
     }
 
     fn enter_no_gc_scope(&mut self) {
@@ -238,46 +210,14 @@ impl GcHeap for CopyingHeap {
 
     fn expose_gc_ref_to_wasm(&mut self, gc_ref: VMGcRef) {}
 
-    fn alloc_raw(
+    fn alloc_object(
         &mut self,
         header: VMGcHeader,
-        size: u32,
+        first: FirstWord,
+        size: u64,
     ) -> Result<Result<VMGcRef, u64>, HeapFault> {
         match &mut self.backing {
-            Backing::Attached(space) => space.alloc_raw(header, size),
-            _ => unreachable!(),
-        }
-    }
-
-    fn alloc_externref(
-        &mut self,
-        host_data: ExternRefHostDataId,
-    ) -> Result<Result<VMExternRef, u64>, HeapFault> {
-        match &mut self.backing {
-            Backing::Attached(space) => space.alloc_external(host_data),
-            _ => unreachable!(),
-        }
-    }
-
-    fn alloc_uninit_struct_or_exn(
-        &mut self,
-        ty: VMSharedTypeIndex,
-        layout: &GcStructLayout,
-    ) -> Result<Result<VMGcRef, u64>, HeapFault> {
-        match &mut self.backing {
-            Backing::Attached(space) => space.alloc_struct_or_exn(ty, layout),
-            _ => unreachable!(),
-        }
-    }
-
-    fn alloc_uninit_array(
-        &mut self,
-        ty: VMSharedTypeIndex,
-        length: u32,
-        layout: &GcArrayLayout,
-    ) -> Result<Result<VMArrayRef, u64>, HeapFault> {
-        match &mut self.backing {
-            Backing::Attached(space) => space.alloc_array(ty, length, layout),
+            Backing::Attached(space) => space.allocate(header, first, size),
             _ => unreachable!(),
         }
     }
@@ -285,20 +225,6 @@ impl GcHeap for CopyingHeap {
     fn dealloc_uninit_struct_or_exn(&mut self, gc_ref: VMGcRef) {}
 
     fn dealloc_uninit_array(&mut self, array: VMArrayRef) {}
-
-    fn externref_host_data(&self, r: &VMExternRef) -> Result<ExternRefHostDataId, RefFault> {
-        match &self.backing {
-            Backing::Attached(space) => read::host_data(&space.memory, Layouts::Copying, r),
-            _ => Err(RefFault::BadRef),
-        }
-    }
-
-    fn header(&self, r: &VMGcRef) -> Result<VMGcHeader, RefFault> {
-        match &self.backing {
-            Backing::Attached(space) => read::header(&space.memory, Layouts::Copying, r),
-            _ => Err(RefFault::BadRef),
-        }
-    }
 
     fn set_header(&mut self, r: &VMGcRef, header: VMGcHeader) -> Result<(), RefFault> {
         if r.is_i31() {
@@ -308,45 +234,10 @@ impl GcHeap for CopyingHeap {
         }
     }
 
-    fn object_size(&self, r: &VMGcRef) -> Result<usize, RefFault> {
-        match &self.backing {
-            Backing::Attached(space) => read::object_size(&space.memory, Layouts::Copying, r),
-            _ => Err(RefFault::BadRef),
-        }
-    }
-
-    fn object_range(&self, r: &VMGcRef) -> Result<Range<usize>, RefFault> {
-        match &self.backing {
-            Backing::Attached(space) => read::object_range(&space.memory, Layouts::Copying, r),
-            _ => Err(RefFault::BadRef),
-        }
-    }
-
-    fn array_len(&self, r: &VMArrayRef) -> Result<u32, RefFault> {
-        match &self.backing {
-            Backing::Attached(space) => read::array_len(&space.memory, Layouts::Copying, r),
-            _ => Err(RefFault::BadRef),
-        }
-    }
-
-    fn gc_object_data(&self, r: &VMGcRef) -> Result<VMGcObjectData<'_>, RefFault> {
-        match &self.backing {
-            Backing::Attached(space) => read::object_data(&space.memory, Layouts::Copying, r),
-            _ => Err(RefFault::BadRef),
-        }
-    }
-
     fn write_object_data(&mut self, r: &VMGcRef, offset: u32, bytes: &[u8]) {
         match &mut self.backing {
             Backing::Attached(space) => space.write_data(r, offset, bytes),
             _ => unreachable!(),
-        }
-    }
-
-    fn heap_slice(&self) -> &[u8] {
-        match &self.backing {
-            Backing::Attached(space) => space.memory.bytes(),
-            _ => &[],
         }
     }
 

@@ -20,7 +20,6 @@ pub mod layout;
 mod place;
 pub(crate) mod space;
 pub(crate) mod ticks;
-mod trace;
 mod write;
 
 pub use collection::CopyingCollection;

@@ -10,15 +10,17 @@
 ghost use Rattle.std.specs.Prelude.{ℕ, ◌≡◌, ◌+◌, ◌-◌, ◌*◌, ◌/◌, ◌≤◌, ◌<◌, ◌^◌, length, IfSome, IfNone};
 ghost use Rattle.gc_types.specs.declared.kind.Layouts.TheVariants.{Copying};
 ghost use Rattle.gc_types.specs.Layouts.{round_up};
-ghost use Rattle.gc_view.specs.Sizes.{alignment, need_of, too_large};
+ghost use Rattle.gc_view.specs.Sizes.{alignment};
 ghost use Rattle.gc_heap.specs.Heap.{IsTooLarge};
 ghost use Rattle.gc_copying.specs.States.{IsSound, seen_in};
 ghost use Rattle.gc_copying.specs.Placing.{CanPlace, WritesBlock, FindsRoom};
 
 use crate::space::Space;
 use gc_heap::HeapMemory;
-use gc_memory::offsets::{ALIGNMENT, COPYING_FORWARDING, COPYING_SIZE};
+use gc_heap::sizes::{need, round_up, size_limit};
+use gc_memory::offsets::{COPYING_FORWARDING, COPYING_SIZE};
 use gc_refs::{VMGcHeader, VMGcRef};
+use gc_types::Layouts;
 
 /// Whether a new object fits behind the last one.
 #[derive(Clone, Copy, Debug, PartialEq, Eq)]
@@ -31,51 +33,16 @@ pub(crate) enum Room {
     TooLarge,
 }
 
-/// The greatest size that, rounded up to a multiple of 16, is a number of 32 bits.
-const MAX_SIZE: u64 = 0xFFFF_FFF0;
-
-/// The next multiple of 16.
-fn align_up(size: u64) -> u64
-    requires { size ≤ 2 ^ 32 }
-    ensures { result ≡ round_up size alignment }
-{
-    let alignment = u64::from(ALIGNMENT);
-    (size + (alignment - 1)) / alignment * alignment
-}
-
-/// What a memory has to grow by, so that an object of `block` bytes fits: a half grows by half of what
-/// the memory grows by, so it is twice the object's bytes, and 32 for the bytes that are skipped.
-fn lacking(block: u64) -> u64
-    requires { block ≤ 2 ^ 33 }
-    ensures { result ≡ 2 * block + 32 }
-{
-    2 * block + 2 * u64::from(ALIGNMENT)
-}
-
-/// Whether no copying heap can hold an object of `size` bytes.
-pub(crate) fn is_too_large(size: u32) -> bool
-    ensures { result ≡ too_large Copying size }
-{
-    u64::from(size) > MAX_SIZE
-}
-
-/// The bytes that a heap without room for an object of `size` bytes has to grow by.
-pub(crate) fn need(size: u32) -> u64
-    ensures { result ≡ need_of Copying size }
-{
-    lacking(align_up(u64::from(size)))
-}
-
 /// The bytes that an object of `size` bytes takes: the next multiple of 16. None exactly where no heap can
 /// hold them.
 fn block_size(size: u64) -> Option<u32>
     ensures some { IfSome result (λ block. (block ≡ round_up size alignment) × (IsTooLarge Copying size → ⊥)) }
     ensures none { IfNone result (IsTooLarge Copying size) }
 {
-    if size > MAX_SIZE {
+    if size >= size_limit(Layouts::Copying) {
         return None;
     }
-    Some(align_up(size) as u32)
+    Some(round_up(size) as u32)
 }
 
 /// Writes the header, the size and the zeroed data of a new object of `size` bytes at a place.
@@ -106,7 +73,7 @@ impl Space {
                 if u64::from(self.bump) + u64::from(block) <= u64::from(self.limit()) {
                     Room::Fits(block)
                 } else {
-                    Room::Lacks(lacking(u64::from(block)))
+                    Room::Lacks(need(Layouts::Copying, size))
                 }
             }
         }

@@ -1,5 +1,5 @@
 -- What is seen of a heap by where it has its memory.
-use Rattle.std.proofs.Common.{drop, take, ◌≡◌, ℕ, ◌+◌, ◌*◌, ◌%◌, ◌<◌, ◌≤◌, ◌++◌, false, List, length, replicate, Option, Some, None, refl, sym, ap, subst, ◌∙◌, inl, inr, arith}
+use Rattle.std.proofs.Common.{drop, take, ◌≡◌, ℕ, ◌+◌, ◌*◌, ◌%◌, ◌<◌, ◌≤◌, ◌++◌, true, false, List, length, replicate, Option, Some, None, refl, sym, ap, subst, ◌∙◌, inl, inr, arith}
 use Rattle.std.specs.Ordering.{nat_cmp}
 use Rattle.std.specs.FinMap as finite
 use Rattle.std.proofs.lemmas.Bool.{cases_eq}
@@ -15,11 +15,13 @@ use Rattle.gc_heap.specs.Lying.{LiesIn}
 use Rattle.gc_heap.specs.Objects.{IsObjectData}
 use Rattle.gc_heap.specs.Heap.{grown}
 use Rattle.gc_heap.specs.Barriers.{raise, lower, show, cloned, dropped, exposed, copied, CanUnname, CanUnnameSlot, IsNamed}
+use Rattle.gc_heap.proofs.MemoryLemmas as memory
+use Rattle.gc_heap.specs.Backings.{IsAttached, Gives, Takes}
 use Rattle.gc_drc.specs.declared.space.CountedSpace.{CountedSpace}
 use Rattle.gc_drc.specs.declared.growth.Marks.{Marks}
 use Rattle.gc_drc.specs.declared.heap.DrcHeap.{DrcHeap}
-use Rattle.gc_drc.specs.declared.heap.Backing.{Backing}
-use Rattle.gc_drc.specs.declared.heap.Backing.TheVariants as backing
+use Rattle.gc_drc.specs.Backed.{Backing, marks_of}
+use Rattle.gc_heap.specs.declared.backing.Backing.TheVariants as backing
 use Rattle.gc_drc.specs.Layout.{object_at}
 use Rattle.gc_drc.specs.Content.{at_places, seen_in, IsSoundSpace}
 use Rattle.gc_drc.specs.Growth.{with_bytes}
@@ -38,12 +40,11 @@ not_attached scopes backing.Detached never = refl
 not_attached scopes (backing.Attached s) never = absurd (never s refl)
 not_attached scopes (backing.Taken m) never = refl
 
-nothing_empty : (q : ℕ) (o : HeapObject) → finite.get (finite.empty {X = HeapObject} {R = nat_cmp}) q ≡ Some o → ⊥
-nothing_empty q o e = cc (finite.get-empty nat_cmp q)
-
 -- and it holds nothing
 pub nothing_held : (scopes : ℕ) (b : Backing) (q : ℕ) (o : HeapObject) → ((s : CountedSpace) → b ≡ backing.Attached s → ⊥) → finite.get (seen_of scopes b).content q ≡ Some o → ⊥
-nothing_held scopes b q o never held = nothing_empty q o (sym (ap (λ (h : HeapView). finite.get h.content q) (not_attached scopes b never)) ∙ held)
+nothing_held scopes b q o never held =
+    let none = not_attached scopes b never in
+    memory.nothing_held (seen_of scopes b) q o (none ∙ ap detached_in (sym (ap (λ (h : HeapView). h.scopes) none))) held
 
 attached_at : (h : DrcHeap) (s : CountedSpace) (q : ℕ) (o : HeapObject) → h.backing ≡ backing.Attached s → IsDrcSound h → finite.get (drc_seen h).content q ≡ Some o → HeldAt s q o
 attached_at h s q o is sound held = held_at s h.scopes q o (subst IsBacked is sound.backed) (subst (λ b. finite.get (seen_of h.scopes b).content q ≡ Some o) is held)
@@ -65,10 +66,9 @@ host_number h s q o is sound held kind =
     (omega (arith, x.external.from, x.word_is), omega (arith, x.external.to, x.word_is))
 
 pub nothing_counted : (scopes : ℕ) (b : Backing) (q n : ℕ) → ((s : CountedSpace) → b ≡ backing.Attached s → ⊥) → finite.get (seen_of scopes b).counts.counted q ≡ Some n → ⊥
-nothing_counted scopes b q n never held = no_count q n (sym (ap (λ (h : HeapView). finite.get h.counts.counted q) (not_attached scopes b never)) ∙ held)
-  where
-    no_count : (q n : ℕ) → finite.get (finite.empty {X = ℕ} {R = nat_cmp}) q ≡ Some n → ⊥
-    no_count q n e = cc (finite.get-empty nat_cmp q)
+nothing_counted scopes b q n never counted =
+    let none = not_attached scopes b never in
+    memory.nothing_counted (seen_of scopes b) q n (none ∙ ap detached_in (sym (ap (λ (h : HeapView). h.scopes) none))) counted
 
 pub scopes_of : (scopes : ℕ) (b : Backing) → (seen_of scopes b).scopes ≡ scopes
 scopes_of scopes backing.Detached = refl
@@ -90,10 +90,6 @@ unchanged_dropped scopes b q never = subst (λ h. h ≡ dropped h q) (sym (not_a
 pub unchanged_exposed : (scopes : ℕ) (b : Backing) (q : ℕ) → ((s : CountedSpace) → b ≡ backing.Attached s → ⊥) → seen_of scopes b ≡ exposed (seen_of scopes b) q
 unchanged_exposed scopes b q never = subst (λ h. h ≡ exposed h q) (sym (not_attached scopes b never))
     (ap (λ n. record (detached_in scopes) { counts = show n q (detached_in scopes).counts }) (sym (not_counted q)))
-
--- no object is named by a number
-pub held_even : (h : DrcHeap) (q : ℕ) (o : HeapObject) → IsDrcSound h → finite.get (drc_seen h).content q ≡ Some o → q % 2 ≡ 1 → ⊥
-held_even h q o s held odd = let l = (drc_is_heap h s).objects q o held in omega (arith, l.aligned)
 
 -- as many objects as are counted
 pub count_of : (scopes : ℕ) (s : CountedSpace) → IsSoundSpace s → s.objects ≡ finite.len (seen_in scopes s).content
@@ -160,3 +156,38 @@ pub is_taken : (scopes : ℕ) (b : Backing) (view : HeapView) (bytes : List ℕ)
 is_taken scopes backing.Detached view bytes out never = out
 is_taken scopes (backing.Attached s) view bytes out never = out
 is_taken scopes (backing.Taken m) view bytes out never = never m refl
+
+-- a heap that is attached has its memory in place
+false_not_true : false ≡ true → ⊥
+false_not_true e = cc
+
+pub attached : (scopes : ℕ) (b : Backing) → (seen_of scopes b).attached ≡ true → IsAttached b
+attached scopes backing.Detached e = false_not_true e
+attached scopes (backing.Attached s) e = tt
+attached scopes (backing.Taken m) e = false_not_true e
+
+-- the memory that is given away has all bytes of the heap
+pub given_size : (scopes : ℕ) (b : Backing) (bytes : List ℕ) → Gives (λ (s : CountedSpace). s.memory) b bytes → length bytes ≡ (seen_of scopes b).capacity
+given_size scopes backing.Detached bytes given = absurd given
+given_size scopes (backing.Attached s) bytes given = ap length given
+given_size scopes (backing.Taken m) bytes given = absurd given
+
+-- What a heap is whose memory was handed out.
+pub record HandsOut (scopes : ℕ) (b after : Backing) (bytes : List ℕ) : Type 0 where
+  pub out : IsOut scopes after (seen_of scopes b) bytes
+  pub size : length bytes ≡ (seen_of scopes b).capacity
+  pub none : (seen_of scopes after).attached ≡ false
+
+pub hands_out : (scopes : ℕ) (b after : Backing) (bytes : List ℕ) → IsBacked b → Takes (λ (s : CountedSpace). s.memory) marks_of b after bytes → HandsOut scopes b after bytes
+hands_out scopes backing.Detached after bytes sound t = absurd t
+hands_out scopes (backing.Attached s) after bytes sound t = record {
+  out = out_of s sound t.0 t.1;
+  size = ap length t.0;
+  none = ap (λ a. (seen_of scopes a).attached) t.1;
+}
+  where
+    out_of : (s : CountedSpace) → IsSoundSpace s → bytes ≡ s.memory → after ≡ backing.Taken (marks_of s) → IsOut scopes after (seen_in scopes s) bytes
+    out_of s sound bytes_are is =
+        subst (λ a. IsOut scopes a (seen_in scopes s) bytes) (sym is)
+        (subst (λ m. IsSoundSpace (with_bytes (marks_of s) m) × (seen_in scopes s ≡ seen_in scopes (with_bytes (marks_of s) m))) (sym bytes_are) (sound, refl))
+hands_out scopes (backing.Taken m) after bytes sound t = absurd t

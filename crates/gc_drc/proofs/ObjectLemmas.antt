@@ -1,7 +1,6 @@
 -- The objects that allocations make.
-use Rattle.std.proofs.Common.{◌≡◌, ℕ, ◌+◌, ◌-◌, ◌*◌, ◌/◌, ◌%◌, ◌<◌, ◌≤◌, ◌^◌, List, [], ◌∷◌, ◌++◌, take, drop, length, replicate, Ok, Err, refl, sym, ap, subst, ◌∙◌, arith}
+use Rattle.std.proofs.Common.{◌≡◌, ℕ, ◌+◌, ◌-◌, ◌*◌, ◌/◌, ◌%◌, ◌<◌, ◌≤◌, ◌^◌, List, [], ◌∷◌, ◌++◌, take, drop, length, replicate, Err, refl, sym, ap, subst, ◌∙◌, arith}
 use Rattle.std.specs.Int.{w32, to_le_bytes}
-use Rattle.std.specs.Prelude.{Result, Bool, true, false}
 use Rattle.std.proofs.lemmas.List.{drop-replicate}
 use Rattle.gc_types.specs.declared.kind.Layouts.TheVariants.{Counting}
 use Rattle.gc_types.specs.declared.kind.VMGcKind.{VMGcKind}
@@ -19,7 +18,11 @@ use Rattle.gc_view.proofs.ByteLemmas.{part-put_bytes_inside}
 use Rattle.gc_view.specs.Bytes.{put_u32}
 use Rattle.gc_view.specs.Heaps.{HeapObject}
 use Rattle.gc_heap.specs.Objects.{first_offset, zeroed, zeroed_array, external, IsObjectKind, HasFields}
-use Rattle.gc_heap.specs.Heap.{LacksRoom, Allocated, CanAllocate, IsTooLarge, exn_or_struct}
+use Rattle.gc_heap.specs.Heap.{LacksRoom, Allocated, CanAllocate, IsTooLarge}
+use Rattle.gc_heap.specs.Making.{CanMake, made, with_word}
+use Rattle.gc_heap.specs.declared.new_object.FirstWord.{FirstWord}
+use Rattle.gc_heap.specs.declared.new_object.FirstWord.TheVariants as begin
+use Rattle.gc_heap.proofs.MakingLemmas.{array_least, not_external, object_kind_of}
 use Rattle.gc_view.specs.Sizes.{need_of}
 use Rattle.gc_heap.specs.declared.heap.HeapFault.{HeapFault}
 use Rattle.gc_heap.specs.declared.heap.HeapFault.TheVariants as fault
@@ -35,17 +38,6 @@ use Rattle.gc_drc.proofs.MakeLemmas.{new_place, Makes, makes, no_room, kept_seen
 pub kind_by_header : (b : List ℕ) (p w : ℕ) (k : VMGcKind) → word b p ≡ w → IsOfKind k w → kind_at b p ≡ k
 unfolding kind_at
 kind_by_header b p w k e is = ap (λ v. kind_of (kind_part v)) e ∙ ap kind_of (sym is) ∙ kind_of-kind_bits k
-
-object_kind_of : (k : VMGcKind) → HasFields k → IsObjectKind k
-object_kind_of ExternRef h = absurd h
-object_kind_of AnyRef h = h
-object_kind_of EqRef h = h
-object_kind_of StructRef h = h
-object_kind_of ArrayRef h = h
-object_kind_of ExnRef h = h
-
-not_external : (k : VMGcKind) → HasFields k → k ≡ ExternRef → ⊥
-not_external k h e = subst HasFields e h
 
 pub least_first : (k : VMGcKind) (size : ℕ) → first_offset Counting k ≤ size → 28 ≤ size
 least_first ExternRef size h = omega arith
@@ -200,11 +192,11 @@ alloc_external_of s m t bytes p id sound small placed is written id_small =
     (puts_external s.memory m.memory bytes p id placed.block written (room_of s placed.between p 32 sound placed.taken (omega arith)) id_small)
     (placed_more s t placed.between m 32 bytes placed.is is)
 
--- where the first word of a new object's data lies
-pub front_room : (s m : CountedSpace) (p size : ℕ) (h : Header) → IsSoundSpace s → IsPlaced s m h size p → 32 ≤ size → p + 32 ≤ length m.memory
+-- the bytes of a new object lie in the memory
+pub front_room : (s m : CountedSpace) (p size : ℕ) (h : Header) → IsSoundSpace s → IsPlaced s m h size p → 28 ≤ size → p + size ≤ length m.memory
 front_room s m p size h sound placed least =
     let len = placed.block.around.same_length in
-    let room = room_of s placed.between p size sound placed.taken (omega arith) in omega arith
+    let room = room_of s placed.between p size sound placed.taken least in omega arith
 
 -- an allocation that made nothing
 pub lacks_room : (s t : CountedSpace) (size need scopes : ℕ) → IsSoundSpace s → 0 < size → (IsTooLarge Counting size → ⊥) → IsFull s size → need ≡ need_of Counting size → KeepsBlocks s t
@@ -220,25 +212,17 @@ pub not_made_sound : (s t : CountedSpace) (h : Header) (size : ℕ) (f : HeapFau
 not_made_sound s t h size fault.TooLarge sound placed = kept_sound s t sound placed.1
 not_made_sound s t h size fault.Memory sound placed = kept_sound s t sound placed
 
--- what an allocation of an object with that header answers and does
-pub allocates_raw : (s t : CountedSpace) (h : Header) (size : ℕ) (r : Result (Result ℕ ℕ) HeapFault) → IsSoundSpace s → CanAllocate Counting h size → PlacesObject s t h size r
-    → IsSoundSpace t × ((scopes : ℕ) (k : VMGcKind) → IsOfKind k h.kind_word → Allocated Counting (seen_in scopes s) (seen_in scopes t) (zeroed Counting k h.type_word (h.kind_word % spare_bits) size) size r)
-allocates_raw s t h size (Ok (Ok p)) sound can placed = (
-  (alloc_zeroed s t p size h can.kind sound can placed.0 placed.1 can.is_kind).sound,
-  λ scopes k is. (alloc_zeroed s t p size h k sound can placed.0 placed.1 is).adds_object scopes,
-)
-allocates_raw s t h size (Ok (Err need)) sound can placed = (
-  kept_sound s t sound placed.1.1.1,
-  λ scopes k is. lacks_room s t size need scopes sound (let many = least_first can.kind size can.least in omega arith) placed.0 placed.1.0 placed.1.1.0 placed.1.1.1,
-)
-allocates_raw s t h size (Err f) sound can placed =
-    (not_made_sound s t h size f sound placed, λ scopes k is. not_made s t h (zeroed Counting k h.type_word (h.kind_word % spare_bits) size) size scopes f placed)
-
--- the header of a struct or an exception
-pub struct_header : (is_exception : Bool) (ty : ℕ) → IsOfKind (exn_or_struct is_exception) (header_of (exn_or_struct is_exception) ty).kind_word × ((header_of (exn_or_struct is_exception) ty).kind_word % spare_bits ≡ 0)
-struct_header true ty = (refl, refl)
-struct_header false ty = (refl, refl)
-
-pub can_allocate_struct : (is_exception : Bool) (ty size : ℕ) → first_offset Counting (exn_or_struct is_exception) ≤ size → CanAllocate Counting (header_of (exn_or_struct is_exception) ty) size
-can_allocate_struct true ty size least = record { kind = ExnRef; is_kind = refl; has_fields = tt; least = least; spare = refl }
-can_allocate_struct false ty size least = record { kind = StructRef; is_kind = refl; has_fields = tt; least = least; spare = refl }
+-- an object was made of a header and a first word
+pub makes_made : (s m t : CountedSpace) (p size : ℕ) (h : Header) (word : FirstWord) (k : VMGcKind) → IsSoundSpace s → CanMake Counting h word size
+    → ((id : ℕ) → word ≡ begin.Host id → id + 1 ≤ max_entries) → (IsTooLarge Counting size → ⊥) → IsPlaced s m h size p
+    → t ≡ record m { memory = with_word Counting m.memory p word } → IsOfKind k h.kind_word → Makes s t p size (made Counting k h word size)
+makes_made s m t p size h begin.Zero k sound can bound small placed is kind =
+    subst (λ (x : CountedSpace). Makes s x p size (made Counting k h begin.Zero size)) (sym is) (alloc_zeroed s m p size h k sound can small placed kind)
+makes_made s m t p size h (begin.Length count) k sound can bound small placed is kind =
+    let least : 32 ≤ size = subst (λ n. 32 ≤ n) (sym can.size_is) (array_least can.layout count 32 can.least) in
+    subst (λ (n : ℕ). Makes s t p size (zeroed_array Counting h.type_word n count size)) (sym can.spare)
+    (alloc_array_of s m t (put_u32 m.memory (p + 28) count) p size h.type_word count h sound small placed is refl least can.small can.is_kind refl can.spare)
+makes_made s m t p size h (begin.Host id) k sound can bound small placed is kind =
+    let external_small : IsTooLarge Counting 32 → ⊥ = subst (λ n. IsTooLarge Counting n → ⊥) can.1 small in
+    let at : IsPlaced s m (header_of ExternRef (2 ^ 32 - 1)) 32 p = subst (λ n. IsPlaced s m (header_of ExternRef (2 ^ 32 - 1)) n p) can.1 (subst (λ x. IsPlaced s m x size p) can.0 placed) in
+    subst (λ (n : ℕ). Makes s t p n (external id)) (sym can.1) (alloc_external_of s m t (put_u32 m.memory (p + 28) (id + 1)) p id sound external_small at is refl (bound id refl))

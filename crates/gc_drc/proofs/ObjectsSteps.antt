@@ -12,8 +12,8 @@ use Rattle.gc_drc.specs.declared.space.CountedSpace.{CountedSpace}
 use Rattle.gc_drc.specs.declared.collect.phase.Phase.{Phase}
 use Rattle.gc_drc.specs.declared.collect.phase.Phase.TheVariants as phase
 use Rattle.gc_drc.specs.declared.heap.DrcHeap.{DrcHeap}
-use Rattle.gc_drc.specs.declared.heap.Backing.{Backing}
-use Rattle.gc_drc.specs.declared.heap.Backing.TheVariants as backing
+use Rattle.gc_drc.specs.Backed.{Backing}
+use Rattle.gc_heap.specs.declared.backing.Backing.TheVariants as backing
 use Rattle.gc_drc.specs.View.{View}
 use Rattle.gc_drc.specs.Content.{seen_in, IsSoundSpace}
 use Rattle.gc_drc.specs.States.{seen_of, drc_seen, IsBacked, IsDrcSound}

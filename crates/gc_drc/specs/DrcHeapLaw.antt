@@ -5,8 +5,8 @@ use Rattle.gc_heap.specs.Content.{IsHeap}
 use Rattle.gc_drc.specs.SpaceLaws.{space_is_heap, detached_is_heap}
 use Rattle.gc_drc.specs.States.{seen_of, drc_seen, IsBacked, IsDrcSound}
 use Rattle.gc_drc.specs.declared.heap.DrcHeap.{DrcHeap}
-use Rattle.gc_drc.specs.declared.heap.Backing.{Backing}
-use Rattle.gc_drc.specs.declared.heap.Backing.TheVariants as backing
+use Rattle.gc_drc.specs.Backed.{Backing}
+use Rattle.gc_heap.specs.declared.backing.Backing.TheVariants as backing
 
 backed_is_heap : (scopes : ℕ) (b : Backing) → IsBacked b → scopes < 2 ^ 64 → IsHeap Counting (seen_of scopes b)
 backed_is_heap scopes backing.Detached backed below = detached_is_heap scopes below

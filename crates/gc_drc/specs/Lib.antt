@@ -1,3 +1,4 @@
+pub mod Backed
 pub mod Layout
 pub mod View
 pub mod Content

@@ -3,8 +3,8 @@
 use Rattle.std.specs.Prelude.{◌≡◌, ℕ, ◌<◌, ◌^◌, List}
 use Rattle.gc_view.specs.Heaps.{HeapView, detached_in}
 use Rattle.gc_drc.specs.declared.heap.DrcHeap.{DrcHeap}
-use Rattle.gc_drc.specs.declared.heap.Backing.{Backing}
-use Rattle.gc_drc.specs.declared.heap.Backing.TheVariants as backing
+use Rattle.gc_drc.specs.Backed.{Backing}
+use Rattle.gc_heap.specs.declared.backing.Backing.TheVariants as backing
 use Rattle.gc_drc.specs.Content.{seen_in, IsSoundSpace}
 use Rattle.gc_drc.specs.Growth.{with_bytes}
 

@@ -9,7 +9,7 @@ ghost use Rattle.gc_drc.specs.Content.{IsSoundSpace, seen_in};
 
 use crate::space::CountedSpace;
 use gc_free::FreeList;
-use gc_heap::HeapMemory;
+use gc_heap::{HeapMemory, HeapSpace};
 use std::alloc::Global;
 
 /// What a heap knows of its memory while that is out.
@@ -42,20 +42,18 @@ impl CountedSpace {
             Err(_) => Err(memory),
         }
     }
+}
 
-    /// Takes the memory out.
-    pub(crate) fn into_memory(self) -> (HeapMemory, Marks)
-        ensures { result ≡ (
-          self.memory,
-          record {
-            free = self.free;
-            shown = self.shown;
-            queued = self.queued;
-            objects = self.objects;
-            allocated = self.allocated;
-          },
-        ) }
-    {
+impl HeapSpace for CountedSpace {
+    ghost use Rattle.gc_drc.specs.Backed.{marks_of};
+
+    type Marks = Marks;
+
+    ghost memory = { λ s. s.memory };
+
+    ghost marks = { marks_of };
+
+    fn into_memory(self) -> (HeapMemory, Marks) {
         let marks = Marks {
             free: self.free,
             shown: self.shown,

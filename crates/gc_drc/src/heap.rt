@@ -25,33 +25,23 @@ ghost use Rattle.gc_drc.specs.PlainCounting.{HasDone, UnheldGone};
 use crate::collect::phase::Phase;
 use crate::collection::DrcCollection;
 use crate::growth::Marks;
-use crate::place;
 use crate::space::CountedSpace;
-use gc_heap::{GcHeap, GcProgress, GcStoreTraceState, HeapFault, HeapKind, HeapMemory, read};
-use gc_refs::{RefFault, VMArrayRef, VMExternRef, VMGcHeader, VMGcObjectData, VMGcRef};
+use gc_heap::{
+    Backing, FirstWord, GcHeap, GcProgress, GcStoreTraceState, HeapFault, HeapKind, HeapMemory,
+};
+use gc_refs::{RefFault, VMArrayRef, VMGcHeader, VMGcRef};
 use gc_roots::GcRootsList;
 use gc_steps::Steps;
-use gc_tables::ExternRefHostDataId;
-use gc_types::{GcArrayLayout, GcStructLayout, Layouts, VMSharedTypeIndex};
+use gc_types::Layouts;
 use std::alloc::Global;
 use std::mem;
-use std::ops::Range;
 use std::sync::ledger::Ledger;
-
-/// Where a heap has its memory.
-#[derive(Drop)]
-pub(crate) enum Backing {
-    Detached,
-    Attached(CountedSpace),
-    /// The memory is out, so that it can grow.
-    Taken(Marks),
-}
 
 /// A heap whose objects count the words that name them.
 #[derive(Drop)]
 pub struct DrcHeap {
     alloc: Global,
-    backing: Backing,
+    backing: Backing<CountedSpace, Marks>,
     scopes: u64,
 }
 
@@ -218,16 +208,11 @@ impl GcHeap for DrcHeap {
         DrcHeap::new(alloc)
     }
 
-    fn is_too_large(size: u32) -> bool {
-        place::is_too_large(size)
-    }
-
-    fn need(size: u32) -> u64 {
-        place::need(size)
-    }
-
-    fn is_attached(&self) -> bool {
-        matches!(self.backing, Backing::Attached(_))
+    fn memory(&self) -> Option<&HeapMemory> {
+        match &self.backing {
+            Backing::Attached(space) => Some(&space.memory),
+            _ => None,
+        }
     }
 
     fn attach(&mut self, memory: HeapMemory) -> Result<(), HeapMemory> {
@@ -242,21 +227,11 @@ impl GcHeap for DrcHeap {
 
     fn detach(&mut self) -> HeapMemory {
         self.scopes = 0;
-        match mem::replace(&mut self.backing, Backing::Detached) {
-            Backing::Attached(space) => space.memory,
-            _ => unreachable!(),
-        }
+        self.backing.detach()
     }
 
     fn take_memory(&mut self) -> HeapMemory {
-        match mem::replace(&mut self.backing, Backing::Detached) {
-            Backing::Attached(space) => {
-                let (memory, marks) = space.into_memory();
-                self.backing = Backing::Taken(marks);
-                memory
-            }
-            _ => unreachable!(),
-        }
+        self.backing.take()
     }
 
     fn replace_memory(&mut self, memory: HeapMemory, delta_bytes_grown: u64) {
@@ -298,46 +273,14 @@ impl GcHeap for DrcHeap {
         }
     }
 
-    fn alloc_raw(
+    fn alloc_object(
         &mut self,
         header: VMGcHeader,
-        size: u32,
+        first: FirstWord,
+        size: u64,
     ) -> Result<Result<VMGcRef, u64>, HeapFault> {
         match &mut self.backing {
-            Backing::Attached(space) => space.alloc_raw(header, size),
-            _ => unreachable!(),
-        }
-    }
-
-    fn alloc_externref(
-        &mut self,
-        host_data: ExternRefHostDataId,
-    ) -> Result<Result<VMExternRef, u64>, HeapFault> {
-        match &mut self.backing {
-            Backing::Attached(space) => space.alloc_external(host_data),
-            _ => unreachable!(),
-        }
-    }
-
-    fn alloc_uninit_struct_or_exn(
-        &mut self,
-        ty: VMSharedTypeIndex,
-        layout: &GcStructLayout,
-    ) -> Result<Result<VMGcRef, u64>, HeapFault> {
-        match &mut self.backing {
-            Backing::Attached(space) => space.alloc_struct_or_exn(ty, layout),
-            _ => unreachable!(),
-        }
-    }
-
-    fn alloc_uninit_array(
-        &mut self,
-        ty: VMSharedTypeIndex,
-        length: u32,
-        layout: &GcArrayLayout,
-    ) -> Result<Result<VMArrayRef, u64>, HeapFault> {
-        match &mut self.backing {
-            Backing::Attached(space) => space.alloc_array(ty, length, layout),
+            Backing::Attached(space) => space.make(header, first, size),
             _ => unreachable!(),
         }
     }
@@ -356,51 +299,9 @@ impl GcHeap for DrcHeap {
         }
     }
 
-    fn externref_host_data(&self, r: &VMExternRef) -> Result<ExternRefHostDataId, RefFault> {
-        match &self.backing {
-            Backing::Attached(space) => read::host_data(&space.memory, Layouts::Counting, r),
-            _ => Err(RefFault::BadRef),
-        }
-    }
-
-    fn header(&self, r: &VMGcRef) -> Result<VMGcHeader, RefFault> {
-        match &self.backing {
-            Backing::Attached(space) => read::header(&space.memory, Layouts::Counting, r),
-            _ => Err(RefFault::BadRef),
-        }
-    }
-
     fn set_header(&mut self, r: &VMGcRef, header: VMGcHeader) -> Result<(), RefFault> {
         match &mut self.backing {
             Backing::Attached(space) => space.set_header(r, header),
-            _ => Err(RefFault::BadRef),
-        }
-    }
-
-    fn object_size(&self, r: &VMGcRef) -> Result<usize, RefFault> {
-        match &self.backing {
-            Backing::Attached(space) => read::object_size(&space.memory, Layouts::Counting, r),
-            _ => Err(RefFault::BadRef),
-        }
-    }
-
-    fn object_range(&self, r: &VMGcRef) -> Result<Range<usize>, RefFault> {
-        match &self.backing {
-            Backing::Attached(space) => read::object_range(&space.memory, Layouts::Counting, r),
-            _ => Err(RefFault::BadRef),
-        }
-    }
-
-    fn array_len(&self, r: &VMArrayRef) -> Result<u32, RefFault> {
-        match &self.backing {
-            Backing::Attached(space) => read::array_len(&space.memory, Layouts::Counting, r),
-            _ => Err(RefFault::BadRef),
-        }
-    }
-
-    fn gc_object_data(&self, r: &VMGcRef) -> Result<VMGcObjectData<'_>, RefFault> {
-        match &self.backing {
-            Backing::Attached(space) => read::object_data(&space.memory, Layouts::Counting, r),
             _ => Err(RefFault::BadRef),
         }
     }

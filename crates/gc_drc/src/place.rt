@@ -1,20 +1,17 @@
 //! Room for new objects, and what is written for each.
 
 ghost use Rattle.std.specs.Prelude.{◌≡◌, ◌+◌, ◌≤◌, ◌<◌, length};
-ghost use Rattle.gc_types.specs.declared.kind.Layouts.TheVariants.{Counting};
-ghost use Rattle.gc_view.specs.Sizes.{need_of, too_large};
 ghost use Rattle.gc_drc.specs.Layout.{block_of};
 ghost use Rattle.gc_drc.specs.Placing.{CanPlace, WritesBlock, FindsBlock, PlacesObject};
 ghost use Rattle.gc_drc.specs.Content.{IsSoundSpace};
 
 use crate::space::CountedSpace;
 use gc_free::FreeList;
+use gc_heap::sizes::{need, round_up};
 use gc_heap::{HeapFault, HeapMemory};
-use gc_memory::offsets::{ALIGNMENT, COUNTING_COUNT, COUNTING_SIZE};
+use gc_memory::offsets::{COUNTING_COUNT, COUNTING_SIZE};
 use gc_refs::{VMGcHeader, VMGcRef};
-
-/// The least size that, 16 bytes added, is no number of 32 bits.
-const MIN_TOO_LARGE: u64 = 0xFFFF_FFF0;
+use gc_types::Layouts;
 
 /// Room that was taken for an object of that size.
 #[derive(Clone, Copy, Debug, PartialEq, Eq)]
@@ -27,22 +24,7 @@ pub(crate) struct NewBlock {
 pub(crate) fn block_of(size: u32) -> u64
     ensures { result ≡ block_of size }
 {
-    let alignment = u64::from(ALIGNMENT);
-    (u64::from(size) + (alignment - 1)) / alignment * alignment
-}
-
-/// Whether no counting heap can hold an object of `size` bytes.
-pub(crate) fn is_too_large(size: u32) -> bool
-    ensures { result ≡ too_large Counting size }
-{
-    u64::from(size) >= MIN_TOO_LARGE
-}
-
-/// The bytes that a heap without room for an object of `size` bytes has to grow by.
-pub(crate) fn need(size: u32) -> u64
-    ensures { result ≡ need_of Counting size }
-{
-    block_of(size) + u64::from(ALIGNMENT)
+    round_up(u64::from(size))
 }
 
 /// Writes the words and the zeroed data of a new object of `size` bytes at a place.
@@ -81,14 +63,14 @@ impl CountedSpace {
                 place: place.get(),
                 size,
             })),
-            Ok(None) => Ok(Err(need(size))),
+            Ok(None) => Ok(Err(need(Layouts::Counting, u64::from(size)))),
             Err(_) => Err(HeapFault::Memory),
         }
     }
 
     /// Makes an object of `size` bytes with that header, whose data is 0 and which one word names. The
     /// inner Err is the number of bytes that the memory would have to grow by.
-    pub(crate) fn make(
+    pub(crate) fn make_zeroed(
         &mut self,
         header: VMGcHeader,
         size: u64,

@@ -9,6 +9,8 @@ pub mod HostLemmas
 pub mod KindLemmas
 pub mod LyingLemmas
 pub mod MadeLemmas
+pub mod MakingLemmas
+pub mod MemoryLemmas
 pub mod NameLemmas
 pub mod NullHeapLemmas
 pub mod NullMemoryLemmas
@@ -21,4 +23,5 @@ pub mod SpacedLemmas
 pub mod StoredLemmas
 pub mod TakenLayouts
 pub mod TotalLemmas
+pub mod TraceLemmas
 pub mod WrittenLemmas

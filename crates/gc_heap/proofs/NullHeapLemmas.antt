@@ -1,13 +1,10 @@
 -- A null heap with no memory holds nothing; with one, what is read there is what is held.
-use Rattle.std.proofs.Common.{◌≡◌, ℕ, ◌+◌, ◌-◌, ◌*◌, ◌%◌, ◌<◌, ◌≤◌, ◌^◌, ◌++◌, List, [], take, drop, length, replicate, Option, Some, None, refl, sym, ap, subst, ◌∙◌, arith}
+use Rattle.std.proofs.Common.{◌≡◌, ℕ, ◌+◌, ◌-◌, ◌*◌, ◌%◌, ◌≤◌, ◌++◌, List, take, drop, length, replicate, Option, Some, None, refl, sym, ap, subst, ◌∙◌, arith}
 use Rattle.std.specs.Ordering.{nat_cmp}
 use Rattle.std.specs.FinMap as map
-use Rattle.gc_tables.specs.SideTables.{max_entries}
-use Rattle.std.specs.Int.{w32, to_le_bytes}
 use Rattle.std.proofs.lemmas.Cmp.{nat_cmp_total}
-use Rattle.std.proofs.lemmas.Nat.{from_le_bytes-to_le_bytes_4}
 use Rattle.std.proofs.lemmas.Grind.{common_steps}
-use Rattle.std.proofs.lemmas.List.{append-nil, length-replicate, length-take-le, length-drop, drop-take, drop-drop, take-take}
+use Rattle.std.proofs.lemmas.List.{length-replicate, length-take-le, length-drop, drop-take, drop-drop, take-take}
 use Rattle.gc_types.specs.declared.kind.Layouts.TheVariants.{Null}
 use Rattle.gc_types.specs.declared.kind.VMGcKind.TheVariants.{ExternRef}
 use Rattle.gc_types.specs.Kinds.{kind_bits}
@@ -19,12 +16,12 @@ use Rattle.gc_view.specs.Bytes.{put_bytes}
 use Rattle.gc_view.specs.Bytes.{u32_at}
 use Rattle.gc_view.specs.Heaps.{Counts, no_counts, HeapObject, HeapView, Counts, no_counts}
 use Rattle.gc_view.proofs.ByteLemmas.{u32_at-part}
-use Rattle.gc_heap.specs.Objects.{held_size, external, IsHeaderOf, IsObjectData}
+use Rattle.gc_heap.specs.Objects.{held_size, IsHeaderOf, IsObjectData}
 use Rattle.gc_heap.specs.Content.{LiesAtPlace}
 use Rattle.gc_heap.specs.Lying.{LiesIn}
 use Rattle.gc_heap.specs.Heap.{grown, put_object, with_data, IsWritable}
 use Rattle.gc_heap.specs.Barriers.{cloned, dropped, exposed, copied, emptied, overwritten, raise, lower, show}
-use Rattle.gc_heap.specs.NullWalk.{first_place, size_at, object_at, IsHost, LiesAt, placed, header_in}
+use Rattle.gc_heap.specs.NullWalk.{first_place, size_at, object_at, IsHost, LiesAt, header_in}
 use Rattle.gc_heap.specs.NullWalkLaws.{least, object_bytes, length-object, held_is, LiesAmong}
 use Rattle.gc_heap.proofs.NullWalkLemmas.{object_ty, size_word, len_entries}
 use Rattle.gc_heap.specs.NullStates.{bump_view, view_of, null_seen, HasMemory, IsBumped, IsNullSound, IsNullTaken}
@@ -238,18 +235,3 @@ host_in h (Some bytes) q object is sound held kind =
 pub null_host : (h : NullHeap) (q : ℕ) (object : HeapObject) → IsNullSound h → map.get (null_seen h).content q ≡ Some object
     → object.kind ≡ ExternRef → IsHost object
 null_host h q object sound held kind = host_in h h.memory q object refl sound held kind
-
--- an external object as it is made
-pub extern_made : (id number : ℕ) → number ≡ id + 1 → placed ExternRef (2 ^ 32 - 1) (Some number) 12 ≡ external id
-extern_made id number is = λ i. record { kind = ExternRef; ty = 2 ^ 32 - 1; spare = 0; bytes = (append-nil (to_le_bytes w32 number) ∙ ap (to_le_bytes w32) is) i }
-
-pub extern_host : (number ty : ℕ) → 0 < number → number ≤ max_entries → IsHost (placed ExternRef ty (Some number) 12)
-extern_host number ty from to =
-    let bytes : List ℕ = to_le_bytes w32 number in
-    let is : bytes ++ [] ≡ bytes = append-nil bytes in
-    let read : u32_at (bytes ++ []) 0 ≡ number = ap (λ bs. u32_at bs 0) is ∙ from_le_bytes-to_le_bytes_4 number (omega arith) in
-    record {
-      size = ap length is;
-      from = subst (λ n. 0 < n) (sym read) from;
-      to = subst (λ n. n ≤ max_entries) (sym read) to;
-    }

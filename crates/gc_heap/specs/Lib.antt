@@ -1,4 +1,5 @@
 pub mod Access
+pub mod Backings
 pub mod Barriers
 pub mod Client
 pub mod Collection
@@ -7,7 +8,9 @@ pub mod Extents
 pub mod FreedHosts
 pub mod Heap
 pub mod Kinds
+pub mod LentMemory
 pub mod Lying
+pub mod Making
 pub mod NullLaws
 pub mod NullStates
 pub mod NullWalk

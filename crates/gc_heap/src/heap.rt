@@ -1,7 +1,11 @@
 //! The interface of a heap.
 
 use crate::collection::{GcProgress, GcStoreTraceState};
+use crate::layouts::array_bytes;
+use crate::new_object::{FirstWord, array_header, struct_header};
+use crate::{read, sizes};
 use gc_memory::HeapMemory;
+use gc_memory::offsets::external_size;
 use gc_refs::{RefFault, VMArrayRef, VMExternRef, VMGcHeader, VMGcObjectData, VMGcRef};
 use gc_roots::GcRootsList;
 use gc_steps::Steps;
@@ -46,7 +50,7 @@ pub enum HeapFault {
 /// that one frees; in a null heap it is constant.
 pub trait GcHeap {
     ghost use Rattle.std.specs.Prelude.{ℕ, ◌≡◌, ◌≤◌, ◌<◌, ◌⊎◌, ◌%◌, ◌-◌, ◌+◌, ◌^◌, ◌++◌, Bool, true, false, List, length, take, drop, replicate, OnOk, OnErr};
-    ghost use Rattle.std.specs.Prelude.{IfErr, IsOkAnd, IsErr, IsOk, Some};
+    ghost use Rattle.std.specs.Prelude.{IfErr, IsOkAnd, IsErr, IsOk, MatchOption, Some};
     ghost use Rattle.std.specs.Ordering.{nat_cmp};
     ghost use Rattle.std.specs.Option.{option_copied};
     ghost use Rattle.std.specs.FinMap as finite;
@@ -66,6 +70,8 @@ pub trait GcHeap {
     ghost use Rattle.gc_heap.specs.Objects.{held_size, first_offset, array_length, external, zeroed, HasFields, IsHeaderOf, IsObjectData};
     ghost use Rattle.gc_heap.specs.Rules.{SpareFits, LayoutTraces, ArrayTraces};
     ghost use Rattle.gc_heap.specs.Content.{IsHeld, IsHeap};
+    ghost use Rattle.gc_heap.specs.LentMemory.{IsMemoryOf};
+    ghost use Rattle.gc_heap.specs.Making.{CanMake, made};
     ghost use Rattle.gc_heap.specs.Heap.{empty_heap, grown, Allocated, layout_kind, new_struct, new_array, array_size, given_back, IsWritable, with_data};
     ghost use Rattle.gc_heap.specs.Heap.{put_object, with_spare_of, CanAllocate, CanGiveBack, IsStructOrExn, IsArray, IsSameHeader};
     ghost use Rattle.gc_heap.specs.Barriers.{ShowsCount, CanName, CanUnname, CanNameSlot, CanUnnameSlot, IsNamed, cloned, dropped, exposed, overwritten};
@@ -109,19 +115,34 @@ pub trait GcHeap {
     // Sizes
 
     /// Whether no heap of this kind can hold an object of `size` bytes, whatever memory it has.
-    fn is_too_large(size: u32) -> bool
-        ensures { result ≡ too_large KIND size };
+    final fn is_too_large(size: u32) -> bool
+        ensures { result ≡ too_large KIND size }
+    {
+        sizes::is_too_large(Self::KIND, size)
+    }
 
     /// The bytes that a heap of this kind without room for an object of `size` bytes has to grow by, so
     /// that the object fits.
-    fn need(size: u32) -> u64
-        ensures { result ≡ need_of KIND size };
+    final fn need(size: u32) -> u64
+        ensures { result ≡ need_of KIND size }
+    {
+        sizes::need(Self::KIND, u64::from(size))
+    }
 
     // Attaching
 
+    /// Lends the memory, in which all lies that the heap holds. None where the heap isn't attached.
+    fn memory(&self) -> Option<&HeapMemory>
+        ensures attached { MatchOption result ((seen self.now).attached ≡ false) (λ _. (seen self.now).attached ≡ true) }
+        ensures lent { sound self.now → MatchOption result (seen self.now ≡ detached_in (seen self.now).scopes)
+            (λ memory. IsMemoryOf KIND (seen self.now) memory.now) };
+
     /// Whether the heap has a memory.
-    fn is_attached(&self) -> bool
-        ensures { result ≡ (seen self.now).attached };
+    final fn is_attached(&self) -> bool
+        ensures { result ≡ (seen self.now).attached }
+    {
+        self.memory().is_some()
+    }
 
     /// Gives the heap its memory. It holds no objects then. An Err is want of memory and hands the
     /// memory back.
@@ -212,9 +233,24 @@ pub trait GcHeap {
 
     // Allocation
 
+    /// Allocates an object of `size` bytes with that header, whose data begins with that word and is 0
+    /// behind it. The inner Err is the number of bytes that the heap would have to grow by.
+    fn alloc_object(
+        &mut self,
+        header: VMGcHeader,
+        first: FirstWord,
+        size: u64,
+    ) -> Result<Result<VMGcRef, u64>, HeapFault>
+        requires sound { sound self.old }
+        requires attached { (seen self.old).attached ≡ true }
+        requires can { CanMake KIND header first size }
+        ensures sound { sound self.new }
+        ensures allocated { (kind : VMGcKind) → IsOfKind kind header.kind_word
+            → Allocated KIND (seen self.old) (seen self.new) (made KIND kind header first size) size result };
+
     /// Allocates an object of `size` bytes with that header, whose data is 0. The inner Err is the
     /// number of bytes that the heap would have to grow by.
-    fn alloc_raw(
+    final fn alloc_raw(
         &mut self,
         header: VMGcHeader,
         size: u32,
@@ -224,20 +260,31 @@ pub trait GcHeap {
         requires fits { CanAllocate KIND header size }
         ensures sound { sound self.new }
         ensures allocated { (kind : VMGcKind) → IsOfKind kind header.kind_word
-            → Allocated KIND (seen self.old) (seen self.new) (zeroed KIND kind header.type_word (header.kind_word % spare_bits) size) size result };
+            → Allocated KIND (seen self.old) (seen self.new) (zeroed KIND kind header.type_word (header.kind_word % spare_bits) size) size result }
+    {
+        self.alloc_object(header, FirstWord::Zero, u64::from(size))
+    }
 
     /// Allocates an external object for that host value.
-    fn alloc_externref(
+    final fn alloc_externref(
         &mut self,
         host_data: ExternRefHostDataId,
     ) -> Result<Result<VMExternRef, u64>, HeapFault>
         requires sound { sound self.old }
         requires attached { (seen self.old).attached ≡ true }
         ensures sound { sound self.new }
-        ensures allocated { Allocated KIND (seen self.old) (seen self.new) (external host_data) (external_size KIND) result };
+        ensures allocated { Allocated KIND (seen self.old) (seen self.new) (external host_data) (external_size KIND) result }
+    {
+        let size = u64::from(external_size(Self::KIND));
+        match self.alloc_object(VMGcHeader::externref(), FirstWord::Host(host_data), size) {
+            Ok(Ok(object)) => Ok(Ok(VMExternRef::new_unchecked(object))),
+            Ok(Err(need)) => Ok(Err(need)),
+            Err(fault) => Err(fault),
+        }
+    }
 
     /// Allocates a struct or an exception, whose data is 0.
-    fn alloc_uninit_struct_or_exn(
+    final fn alloc_uninit_struct_or_exn(
         &mut self,
         ty: VMSharedTypeIndex,
         layout: &GcStructLayout,
@@ -247,10 +294,13 @@ pub trait GcHeap {
         requires size { first_offset KIND (layout_kind layout.now) ≤ layout.now.size }
         requires traces { LayoutTraces KIND layout.now (first_offset KIND (layout_kind layout.now)) }
         ensures sound { sound self.new }
-        ensures allocated { Allocated KIND (seen self.old) (seen self.new) (new_struct KIND ty layout.now) layout.now.size result };
+        ensures allocated { Allocated KIND (seen self.old) (seen self.new) (new_struct KIND ty layout.now) layout.now.size result }
+    {
+        self.alloc_raw(struct_header(Self::KIND, ty, layout), layout.size)
+    }
 
     /// Allocates an array of that length, whose elements are 0.
-    fn alloc_uninit_array(
+    final fn alloc_uninit_array(
         &mut self,
         ty: VMSharedTypeIndex,
         length: u32,
@@ -261,7 +311,16 @@ pub trait GcHeap {
         requires size { array_base KIND ≤ layout.now.base_size }
         requires traces { ArrayTraces KIND layout.now }
         ensures sound { sound self.new }
-        ensures allocated { Allocated KIND (seen self.old) (seen self.new) (new_array KIND ty length layout.now) (array_size layout.now length) result };
+        ensures allocated { Allocated KIND (seen self.old) (seen self.new) (new_array KIND ty length layout.now) (array_size layout.now length) result }
+    {
+        let header = array_header(Self::KIND, ty, layout);
+        let size = array_bytes(layout, length);
+        match self.alloc_object(header, FirstWord::Length(length), size) {
+            Ok(Ok(object)) => Ok(Ok(VMArrayRef::new_unchecked(object))),
+            Ok(Err(need)) => Ok(Err(need)),
+            Err(fault) => Err(fault),
+        }
+    }
 
     /// Gives back a struct or an exception that nothing names, as one that was just allocated and
     /// will not be used. A heap that counts references frees it; what its fields name is not told.
@@ -283,17 +342,29 @@ pub trait GcHeap {
     // Reading and writing
 
     /// The id of the host value of an external object.
-    fn externref_host_data(&self, r: &VMExternRef) -> Result<ExternRefHostDataId, RefFault>
+    final fn externref_host_data(&self, r: &VMExternRef) -> Result<ExternRefHostDataId, RefFault>
         requires { sound self.now }
         ensures held { (object : HeapObject) → finite.get (seen self.now).content r.now ≡ Some object → object.kind ≡ ExternRef
             → IsOkAnd result (λ id. id + 1 ≡ u32_at object.bytes 0) }
-        ensures number { r.now % 2 ≡ 1 → IsErr result };
+        ensures number { r.now % 2 ≡ 1 → IsErr result }
+    {
+        match self.memory() {
+            Some(memory) => read::host_data(memory, Self::KIND, r),
+            None => Err(RefFault::BadRef),
+        }
+    }
 
     /// The header of an object.
-    fn header(&self, r: &VMGcRef) -> Result<VMGcHeader, RefFault>
+    final fn header(&self, r: &VMGcRef) -> Result<VMGcHeader, RefFault>
         requires { sound self.now }
         ensures held { (object : HeapObject) → finite.get (seen self.now).content r.now ≡ Some object → IsOkAnd result (IsHeaderOf KIND object) }
-        ensures number { r.now % 2 ≡ 1 → IsErr result };
+        ensures number { r.now % 2 ≡ 1 → IsErr result }
+    {
+        match self.memory() {
+            Some(memory) => read::header(memory, Self::KIND, r),
+            None => Err(RefFault::BadRef),
+        }
+    }
 
     /// Sets the header of an object, whose kind and type stay. The heap keeps the spare bits that it
     /// uses itself: all of them in a null and a copying heap, the lowest three in a counting heap.
@@ -308,30 +379,54 @@ pub trait GcHeap {
 
     /// The bytes of an object, its header and the heap's own words among them; in a copying heap
     /// they are a multiple of 16.
-    fn object_size(&self, r: &VMGcRef) -> Result<usize, RefFault>
+    final fn object_size(&self, r: &VMGcRef) -> Result<usize, RefFault>
         requires { sound self.now }
         ensures held { (object : HeapObject) → finite.get (seen self.now).content r.now ≡ Some object → IsOkAnd result (λ size. size ≡ held_size KIND object) }
-        ensures number { r.now % 2 ≡ 1 → IsErr result };
+        ensures number { r.now % 2 ≡ 1 → IsErr result }
+    {
+        match self.memory() {
+            Some(memory) => read::object_size(memory, Self::KIND, r),
+            None => Err(RefFault::BadRef),
+        }
+    }
 
     /// Where the bytes of an object lie in the heap's bytes.
-    fn object_range(&self, r: &VMGcRef) -> Result<Range<usize>, RefFault>
+    final fn object_range(&self, r: &VMGcRef) -> Result<Range<usize>, RefFault>
         requires { sound self.now }
         ensures held { (object : HeapObject) → finite.get (seen self.now).content r.now ≡ Some object
             → IsOkAnd result (λ range. (range.start ≡ r.now) × (range.end ≡ r.now + held_size KIND object)) }
-        ensures number { r.now % 2 ≡ 1 → IsErr result };
+        ensures number { r.now % 2 ≡ 1 → IsErr result }
+    {
+        match self.memory() {
+            Some(memory) => read::object_range(memory, Self::KIND, r),
+            None => Err(RefFault::BadRef),
+        }
+    }
 
     /// The length of an array.
-    fn array_len(&self, r: &VMArrayRef) -> Result<u32, RefFault>
+    final fn array_len(&self, r: &VMArrayRef) -> Result<u32, RefFault>
         requires { sound self.now }
         ensures held { (object : HeapObject) → finite.get (seen self.now).content r.now ≡ Some object → object.kind ≡ ArrayRef
             → IsOkAnd result (λ count. count ≡ array_length object) }
-        ensures number { r.now % 2 ≡ 1 → IsErr result };
+        ensures number { r.now % 2 ≡ 1 → IsErr result }
+    {
+        match self.memory() {
+            Some(memory) => read::array_len(memory, Self::KIND, r),
+            None => Err(RefFault::BadRef),
+        }
+    }
 
     /// Lends the bytes of an object for reading.
-    fn gc_object_data(&self, r: &VMGcRef) -> Result<VMGcObjectData<'_>, RefFault>
+    final fn gc_object_data(&self, r: &VMGcRef) -> Result<VMGcObjectData<'_>, RefFault>
         requires { sound self.now }
         ensures held { (object : HeapObject) → finite.get (seen self.now).content r.now ≡ Some object → IsOkAnd result (IsObjectData KIND object) }
-        ensures number { r.now % 2 ≡ 1 → IsErr result };
+        ensures number { r.now % 2 ≡ 1 → IsErr result }
+    {
+        match self.memory() {
+            Some(memory) => read::object_data(memory, Self::KIND, r),
+            None => Err(RefFault::BadRef),
+        }
+    }
 
     /// Writes bytes at an offset of an object, in the part of it that its holder may write: from the
     /// first free offset of a struct, the instance word of an exception or the element base of an
@@ -349,7 +444,13 @@ pub trait GcHeap {
         ensures size { length result.now ≡ (seen self.now).capacity }
         ensures objects { (place : ℕ) (object : HeapObject) → finite.get (seen self.now).content place ≡ Some object
             → IsObjectData KIND object (take (held_size KIND object) (drop place result.now)) }
-        ensures counts { (place n : ℕ) → finite.get (seen self.now).counts.counted place ≡ Some n → ShowsCount (seen self.now) result.now place n };
+        ensures counts { (place n : ℕ) → finite.get (seen self.now).counts.counted place ≡ Some n → ShowsCount (seen self.now) result.now place n }
+    {
+        match self.memory() {
+            Some(memory) => memory.bytes(),
+            None => &[],
+        }
+    }
 
     // Numbers
 

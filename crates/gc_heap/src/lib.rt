@@ -8,21 +8,27 @@
 #![tactic(auto)]
 
 pub mod access;
+pub mod backing;
 pub mod client;
 pub mod collect;
 pub mod collection;
 pub mod heap;
 pub mod hosts;
 pub mod layouts;
+pub mod new_object;
 pub mod null;
 pub mod read;
 pub mod ref_kinds;
+pub mod sizes;
+mod trace;
 pub mod words;
 
+pub use backing::{Backing, HeapSpace};
 pub use collection::{GcProgress, GcStoreTraceState};
 pub use gc_memory::HeapMemory;
 pub use gc_refs::RefFault;
 pub use gc_roots::{GcRoot, GcRootsIter, GcRootsList, RootPlace};
 pub use heap::{GcHeap, HeapFault, HeapKind};
+pub use new_object::FirstWord;
 pub use null::{NullCollection, NullCollector, NullHeap};
 pub use ref_kinds::RefKinds;

@@ -22,26 +22,17 @@ mod place;
 
 use crate::collection::{GcProgress, GcStoreTraceState};
 use crate::heap::{GcHeap, HeapFault, HeapKind};
-use crate::layouts::kind_of_layout;
-use crate::read;
+use crate::new_object::FirstWord;
 use gc_memory::HeapMemory;
-use gc_refs::{RefFault, VMArrayRef, VMExternRef, VMGcHeader, VMGcObjectData, VMGcRef};
+use gc_refs::{RefFault, VMArrayRef, VMGcHeader, VMGcRef};
 use gc_roots::GcRootsList;
 use gc_steps::Steps;
-use gc_tables::ExternRefHostDataId;
-use gc_types::{GcArrayLayout, GcStructLayout, Layouts, VMGcKind, VMSharedTypeIndex};
+use gc_types::Layouts;
 use std::alloc::Global;
-use std::ops::Range;
 use std::sync::ledger::Ledger;
-
-/// Every object begins at a multiple of this many bytes.
-const ALIGNMENT: u64 = 16;
 
 /// Bytes of a word.
 const WORD: u32 = 4;
-
-/// Bytes of an external object.
-const EXTERN_SIZE: u32 = 12;
 
 /// Where the last object of an empty heap ends.
 const START: u32 = 1;
@@ -123,16 +114,11 @@ impl GcHeap for NullHeap {
         NullHeap::new(alloc)
     }
 
-    fn is_too_large(size: u32) -> bool {
-        size >= place::SIZE_LIMIT
-    }
-
-    fn need(size: u32) -> u64 {
-        place::need(size)
-    }
-
-    fn is_attached(&self) -> bool {
-        self.memory.is_some()
+    fn memory(&self) -> Option<&HeapMemory> {
+        match &self.memory {
+            Some(memory) => Some(memory),
+            None => None,
+        }
     }
 
     fn attach(&mut self, memory: HeapMemory) -> Result<(), HeapMemory> {
@@ -192,49 +178,15 @@ impl GcHeap for NullHeap {
 
     fn expose_gc_ref_to_wasm(&mut self, _gc_ref: VMGcRef) {}
 
-    fn alloc_raw(
+    fn alloc_object(
         &mut self,
         header: VMGcHeader,
-        size: u32,
+        first: FirstWord,
+        size: u64,
     ) -> Result<Result<VMGcRef, u64>, HeapFault> {
-        self.allocate(header, size, None)
-    }
-
-    fn alloc_externref(
-        &mut self,
-        host_data: ExternRefHostDataId,
-    ) -> Result<Result<VMExternRef, u64>, HeapFault> {
-        let number = host_data.into_raw();
-        match self.allocate(VMGcHeader::externref(), EXTERN_SIZE, Some(number)) {
-            Ok(Ok(gc_ref)) => Ok(Ok(VMExternRef::new_unchecked(gc_ref))),
-            Ok(Err(need)) => Ok(Err(need)),
-            Err(fault) => Err(fault),
-        }
-    }
-
-    fn alloc_uninit_struct_or_exn(
-        &mut self,
-        ty: VMSharedTypeIndex,
-        layout: &GcStructLayout,
-    ) -> Result<Result<VMGcRef, u64>, HeapFault> {
-        let header = VMGcHeader::from_kind_and_index(kind_of_layout(layout), ty);
-        self.allocate(header, layout.size, None)
-    }
-
-    fn alloc_uninit_array(
-        &mut self,
-        ty: VMSharedTypeIndex,
-        length: u32,
-        layout: &GcArrayLayout,
-    ) -> Result<Result<VMArrayRef, u64>, HeapFault> {
-        let Some(size) = layout.size(length) else {
-            return Err(HeapFault::TooLarge);
-        };
-        let header = VMGcHeader::from_kind_and_index(VMGcKind::ArrayRef, ty);
-        match self.allocate(header, size, Some(length)) {
-            Ok(Ok(gc_ref)) => Ok(Ok(VMArrayRef::new_unchecked(gc_ref))),
-            Ok(Err(need)) => Ok(Err(need)),
-            Err(fault) => Err(fault),
+        match u32::try_from(size) {
+            Ok(size) => self.allocate(header, size, first.number()),
+            Err(_) => Err(HeapFault::TooLarge),
         }
     }
 
@@ -242,52 +194,11 @@ impl GcHeap for NullHeap {
 
     fn dealloc_uninit_array(&mut self, _array: VMArrayRef) {}
 
-    fn externref_host_data(&self, r: &VMExternRef) -> Result<ExternRefHostDataId, RefFault> {
-        match &self.memory {
-            Some(memory) => read::host_data(memory, Layouts::Null, r),
-            None => Err(RefFault::BadRef),
-        }
-    }
-
-    fn header(&self, r: &VMGcRef) -> Result<VMGcHeader, RefFault> {
-        match &self.memory {
-            Some(memory) => read::header(memory, Layouts::Null, r),
-            None => Err(RefFault::BadRef),
-        }
-    }
-
     fn set_header(&mut self, r: &VMGcRef, _header: VMGcHeader) -> Result<(), RefFault> {
-        match self.header(r) {
-            Ok(_) => Ok(()),
-            Err(fault) => Err(fault),
-        }
-    }
-
-    fn object_size(&self, r: &VMGcRef) -> Result<usize, RefFault> {
-        match &self.memory {
-            Some(memory) => read::object_size(memory, Layouts::Null, r),
-            None => Err(RefFault::BadRef),
-        }
-    }
-
-    fn object_range(&self, r: &VMGcRef) -> Result<Range<usize>, RefFault> {
-        match &self.memory {
-            Some(memory) => read::object_range(memory, Layouts::Null, r),
-            None => Err(RefFault::BadRef),
-        }
-    }
-
-    fn array_len(&self, r: &VMArrayRef) -> Result<u32, RefFault> {
-        match &self.memory {
-            Some(memory) => read::array_len(memory, Layouts::Null, r),
-            None => Err(RefFault::BadRef),
-        }
-    }
-
-    fn gc_object_data(&self, r: &VMGcRef) -> Result<VMGcObjectData<'_>, RefFault> {
-        match &self.memory {
-            Some(memory) => read::object_data(memory, Layouts::Null, r),
-            None => Err(RefFault::BadRef),
+        if r.is_i31() {
+            Err(RefFault::BadRef)
+        } else {
+            Ok(())
         }
     }
 
@@ -296,13 +207,6 @@ impl GcHeap for NullHeap {
         match &mut self.memory {
             Some(memory) => memory.write_bytes(at, bytes),
             None => unreachable!(),
-        }
-    }
-
-    fn heap_slice(&self) -> &[u8] {
-        match &self.memory {
-            Some(memory) => memory.bytes(),
-            None => &[],
         }
     }
 

@@ -3,36 +3,19 @@
 ghost use Rattle.std.specs.Prelude.{ℕ, ◌≡◌, ◌+◌, ◌*◌, ◌/◌, ◌%◌, ◌≤◌, ◌<◌, ◌^◌, true, length, take, drop};
 ghost use Rattle.gc_types.specs.declared.kind.Layouts.TheVariants.{Null};
 ghost use Rattle.gc_types.specs.declared.kind.VMGcKind.{VMGcKind};
-ghost use Rattle.gc_types.specs.Layouts.{round_up};
 ghost use Rattle.gc_refs.specs.Header.{IsOfKind};
-ghost use Rattle.gc_view.specs.Sizes.{alignment, need_of};
 ghost use Rattle.gc_view.specs.Bytes.{SameBytes};
 ghost use Rattle.gc_heap.specs.Heap.{Allocated};
 ghost use Rattle.gc_heap.specs.NullWalk.{data_with, word_end, placed, IsNew, PlacesObject};
 ghost use Rattle.gc_heap.specs.NullStates.{bump_view, null_seen, IsBumped, IsNullSound};
 
-use super::{ALIGNMENT, NullHeap, WORD};
+use super::{NullHeap, WORD};
 use crate::heap::HeapFault;
+use crate::sizes::{NULL_LIMIT, need, round_up};
 use gc_memory::HeapMemory;
 use gc_memory::offsets::HEADER_SIZE;
 use gc_refs::{VMGcHeader, VMGcRef};
-
-/// The least size, in bytes, that the spare bits of a kind word can't tell.
-pub(super) const SIZE_LIMIT: u32 = 0x0400_0000;
-
-/// The next multiple of 16.
-fn align_up(n: u32) -> u64
-    ensures { result ≡ round_up n alignment }
-{
-    (u64::from(n) + (ALIGNMENT - 1)) / ALIGNMENT * ALIGNMENT
-}
-
-/// The bytes that a heap without room for an object of `size` bytes has to grow by.
-pub(super) fn need(size: u32) -> u64
-    ensures { result ≡ need_of Null size }
-{
-    u64::from(size) + ALIGNMENT
-}
+use gc_types::Layouts;
 
 /// Writes the data of a new object of `size` bytes at a place: its first word where that is told, and
 /// zeros.
@@ -62,7 +45,7 @@ fn write_object(
     word: Option<u32>,
 )
     requires new { IsNew header word size }
-    requires small { size < SIZE_LIMIT }
+    requires small { size < NULL_LIMIT }
     requires room { place + size ≤ length memory.old }
     ensures { (kind : VMGcKind) → IsOfKind kind header.kind_word → PlacesObject memory.old memory.new place (placed kind header.type_word word size) size }
 {
@@ -90,13 +73,13 @@ fn allocate_in(
         → Allocated Null (bump_view memory.old next.old objects.old scopes) (bump_view memory.new next.new objects.new scopes)
         (placed kind header.type_word word size) size result }
 {
-    if size >= SIZE_LIMIT {
+    if size >= NULL_LIMIT {
         return Err(HeapFault::TooLarge);
     }
-    let place = align_up(*next);
+    let place = round_up(u64::from(*next));
     let end = place + u64::from(size);
     if end > u64::from(memory.capacity()) {
-        return Ok(Err(need(size)));
+        return Ok(Err(need(Layouts::Null, u64::from(size))));
     }
     write_object(memory, place as u32, header, size, word);
     *next = end as u32;

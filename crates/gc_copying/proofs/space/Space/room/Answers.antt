@@ -20,6 +20,6 @@ returns-else-from c = λ scopes.
         λ room.
             let fits = room_is s.memory s.upper s.bump s.externals s.objects scopes c.args.size c.requires.sound c.requires.positive room in
             absurd (omega (arith, fits, some.0, c.if-from.false)),
-        omega (arith, some.0),
+        c.need.ensures,
       ),
     )

@@ -1,4 +1,4 @@
-use Rattle.std.proofs.Common.{◌≡◌, ◌+◌, ◌<◌, ◌≤◌, length, arith}
+use Rattle.std.proofs.Common.{◌≡◌, ◌+◌, ◌<◌, ◌≤◌, ◌∙◌, ap, length, arith}
 use Rattle.gc_types.specs.declared.kind.VMGcKind.{VMGcKind}
 use Rattle.gc_types.specs.Layouts.{round_up}
 use Rattle.gc_refs.specs.Header.{IsOfKind, spare_bits}
@@ -15,16 +15,16 @@ overflow_add-objects c =
 
 -- what the allocation does to the memory
 added : (c : goal.In-Some) (kind : VMGcKind) → IsOfKind kind c.args.header.kind_word
-    → Adds c.args.memory.now c.write_object.new.memory c.args.next.now c.args.objects.now c.align_up-place.result (placed kind c.args.header.type_word c.args.word c.args.size) c.args.size
+    → Adds c.args.memory.now c.write_object.new.memory c.args.next.now c.args.objects.now c.round_up-place.result (placed kind c.args.header.type_word c.args.word c.args.size) c.args.size
 added c kind is_kind =
     let small : c.args.size < spare_bits = omega arith in
-    let room : c.align_up-place.result + c.args.size ≤ length c.args.memory.now = omega arith in
-    adds_object c.args.memory.now c.write_object.new.memory c.args.next.now c.args.objects.now c.align_up-place.result (placed kind c.args.header.type_word c.args.word c.args.size) c.args.size c.requires.bumped c.align_up-place.ensures small room (c.write_object.ensures kind is_kind)
+    let room : c.round_up-place.result + c.args.size ≤ length c.args.memory.now = omega arith in
+    adds_object c.args.memory.now c.write_object.new.memory c.args.next.now c.args.objects.now c.round_up-place.result (placed kind c.args.header.type_word c.args.word c.args.size) c.args.size c.requires.bumped (c.round_up-place.ensures ∙ ap (λ n. round_up n alignment) c.from.ensures) small room (c.write_object.ensures kind is_kind)
 
 pub returns-clause-bumped : goal.returns-clause-bumped
-returns-clause-bumped c = rw (c.from.ensures) (added c c.requires.new.kind c.requires.new.is_kind).bumped
+returns-clause-bumped c = rw (c.from-2.ensures) (added c c.requires.new.kind c.requires.new.is_kind).bumped
 
 pub returns-clause-allocated : goal.returns-clause-allocated
 returns-clause-allocated c = λ scopes kind is_kind.
-    let is : (0 < c.align_up-place.result) × (c.in-Some.gc_ref ≡ c.align_up-place.result) = c.in-Some.ensures in
-    rw (c.from.ensures, is.1) ((added c kind is_kind).adds scopes)
+    let is : (0 < c.round_up-place.result) × (c.in-Some.gc_ref ≡ c.round_up-place.result) = c.in-Some.ensures in
+    rw (c.from-2.ensures, is.1) ((added c kind is_kind).adds scopes)

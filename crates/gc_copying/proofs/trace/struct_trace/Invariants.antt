@@ -1,5 +1,0 @@
-use Rattle.gc_copying.proofs.TraceLemmas.{TracedAt}
-use Rattle.gc_copying.proofs.trace.struct_trace.Given as goal
-
-abbrev pub invariant-loop-field : goal.invariant-loop-field
-invariant-loop-field l = TracedAt l.bits l.field-index l.fields

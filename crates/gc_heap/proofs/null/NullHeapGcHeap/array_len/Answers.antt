@@ -1,9 +1,0 @@
-use Rattle.gc_heap.proofs.NullHeapLemmas.{nothing_held, null_lies}
-use Rattle.gc_heap.proofs.null.NullHeapGcHeap.array_len.Goals as goal
-
-pub returns-in-Some-clause-held : goal.returns-in-Some-clause-held
-returns-in-Some-clause-held c = λ object held kind.
-    c.array_len.ensures.held object (null_lies c.args.self.now c.in-Some.memory c.args.r.now object c.requires c.in-Some.is held) kind
-
-pub returns-in-None-clause-held : goal.returns-in-None-clause-held
-returns-in-None-clause-held c = λ object held kind. nothing_held c.args.self.now c.args.r.now object c.in-None.is held

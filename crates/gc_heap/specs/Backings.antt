@@ -1,0 +1,22 @@
+-- Where a heap has its memory, and what becomes of that.
+use Rattle.std.specs.Prelude.{List, ℕ, ◌≡◌}
+use Rattle.gc_heap.specs.declared.backing.Backing.{Backing}
+use Rattle.gc_heap.specs.declared.backing.Backing.TheVariants as backing
+
+-- the memory is attached
+abbrev pub IsAttached : {S M : Type 0} → Backing S M → Type 0
+IsAttached backing.Detached = ⊥
+IsAttached (backing.Attached s) = Unit {0}
+IsAttached (backing.Taken m) = ⊥
+
+-- these are the bytes of the memory that was attached
+abbrev pub Gives : {S M : Type 0} → (S → List ℕ) → Backing S M → List ℕ → Type 0
+Gives memory backing.Detached bytes = ⊥
+Gives memory (backing.Attached s) bytes = bytes ≡ memory s
+Gives memory (backing.Taken m) bytes = ⊥
+
+-- the memory that was attached was handed out, and its marks stay
+abbrev pub Takes : {S M : Type 0} → (S → List ℕ) → (S → M) → Backing S M → Backing S M → List ℕ → Type 0
+Takes memory marks backing.Detached after bytes = ⊥
+Takes memory marks (backing.Attached s) after bytes = (bytes ≡ memory s) × (after ≡ backing.Taken (marks s))
+Takes memory marks (backing.Taken m) after bytes = ⊥

@@ -1,0 +1,63 @@
+//! Where a heap has its memory: attached, taken out so that it can grow, or nowhere.
+
+ghost use Rattle.std.specs.Prelude.{◌≡◌};
+ghost use Rattle.gc_heap.specs.Backings.{IsAttached, Gives, Takes};
+
+use gc_memory::HeapMemory;
+use std::mem;
+
+/// The memory of a heap, with what the heap knows of it.
+pub trait HeapSpace: Drop {
+    ghost use Rattle.std.specs.Prelude.{ℕ, ◌≡◌, List};
+
+    /// What the heap knows of its memory while that is out.
+    type Marks: Drop;
+
+    /// The memory.
+    ghost memory: { Self → List ℕ };
+
+    /// What is known of it.
+    ghost marks: { Self → Self.Marks };
+
+    /// Takes the memory out.
+    fn into_memory(self) -> (HeapMemory, Self::Marks)
+        ensures { result ≡ (memory self, marks self) };
+}
+
+/// Where a heap has its memory.
+#[derive(Drop)]
+pub enum Backing<S, M> {
+    Detached,
+    Attached(S),
+    /// The memory is out, so that it can grow.
+    Taken(M),
+}
+
+impl<S: HeapSpace> Backing<S, S::Marks> {
+    /// Gives the memory away.
+    pub fn detach(&mut self) -> HeapMemory
+        requires { IsAttached self.old }
+        ensures given { Gives S.memory self.old result }
+        ensures detached { self.new ≡ Backing.Detached }
+    {
+        match mem::replace(self, Backing::Detached) {
+            Backing::Attached(space) => space.into_memory().0,
+            _ => unreachable!(),
+        }
+    }
+
+    /// Hands the memory out, so that it can grow.
+    pub fn take(&mut self) -> HeapMemory
+        requires { IsAttached self.old }
+        ensures { Takes S.memory S.marks self.old self.new result }
+    {
+        match mem::replace(self, Backing::Detached) {
+            Backing::Attached(space) => {
+                let (memory, marks) = space.into_memory();
+                *self = Backing::Taken(marks);
+                memory
+            }
+            _ => unreachable!(),
+        }
+    }
+}
