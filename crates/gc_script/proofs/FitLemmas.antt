@@ -20,10 +20,10 @@ use Rattle.gc_store.specs.declared.root.RawValue.TheVariants as raw
 use Rattle.gc_store.specs.declared.root.RootedObject.{RootedObject}
 use Rattle.gc_store.specs.Roots.{IsReference, IsObject}
 use Rattle.gc_store.specs.declared.root.GcRootIndex.{GcRootIndex}
-use Rattle.gc_store.specs.Values.{RawStands}
+use Rattle.gc_store.specs.Values.{RawStands, raw_handle}
 use Rattle.gc_store.specs.OwnTypes.{own_type, own_fits}
 use Rattle.gc_store.proofs.OwnFits.{root_fits}
-use Rattle.gc_script.specs.Values.{is_opaque, number_fits, raw_handle, raw_slot, TellsHandle}
+use Rattle.gc_script.specs.Values.{is_opaque, number_fits, raw_slot, TellsHandle}
 
 -- the handle of a value that is a reference
 pub slot_handle : (r : RawValue) (c : GcClass) (h : Option GcRootIndex) → raw_slot r ≡ Some (c, h) → raw_handle r ≡ h

@@ -15,13 +15,13 @@ use Rattle.gc_store.specs.declared.root.GcRootIndex.{GcRootIndex}
 use Rattle.gc_store.specs.declared.root.RawValue.{RawValue}
 use Rattle.gc_store.specs.declared.root.RawValue.TheVariants as raw
 use Rattle.gc_store.specs.Roots.{NamesReference}
-use Rattle.gc_store.specs.Values.{RawStands}
+use Rattle.gc_store.specs.Values.{RawStands, raw_handle}
 use Rattle.gc_script.specs.declared.objects.NamedObject.{NamedObject}
 use Rattle.gc_script.specs.declared.objects.Wanted.{Wanted}
 use Rattle.gc_script.specs.State.{State, Held, number, reference, Stands}
 use Rattle.gc_script.specs.Given.{Given, unset, gone, is, given_register, given_held, given_value, value_named, named, target, reference_target, object_target, names_kind, is_gone}
 use Rattle.gc_script.specs.Steps.{first_failing, target_tests}
-use Rattle.gc_script.specs.Values.{raw_handle, IsFound}
+use Rattle.gc_script.specs.Values.{IsFound}
 use Rattle.gc_script.specs.Named.{wants, TellsObject, FoundObject}
 
 -- a register that is unset holds nothing

@@ -23,6 +23,7 @@ use Rattle.gc_store.specs.declared.root.RawValue.{RawValue}
 use Rattle.gc_store.specs.declared.store.PlaceFault.TheVariants as fault
 use Rattle.gc_store.specs.HostPlaces.{PlacesHost}
 use Rattle.gc_store.specs.Places.{Places}
+use Rattle.gc_store.specs.Values.{raw_handle}
 use Rattle.gc_script.specs.declared.runner.RunError.{RunError}
 use Rattle.gc_script.specs.Slots.{RunnerView}
 use Rattle.gc_script.specs.State.{State, HoldsState}
@@ -31,7 +32,7 @@ use Rattle.gc_script.specs.Shapes.{shape, making, new_host, host_number}
 use Rattle.gc_script.specs.Steps.{first_failing, tests, heap_tests}
 use Rattle.gc_script.specs.Policy.{policy_of}
 use Rattle.gc_script.specs.Run.{GoesOn, RunsOn, RunsOne, WantsAfter}
-use Rattle.gc_script.specs.Values.{raw_handle, IsFound}
+use Rattle.gc_script.specs.Values.{IsFound}
 use Rattle.gc_script.proofs.FoundLemmas.{NamesRoot, root_of, named_is, names_nothing}
 use Rattle.gc_script.proofs.PlainValues.{has_ids}
 use Rattle.gc_script.proofs.StandLemmas.{holds_table}

@@ -13,13 +13,14 @@ use Rattle.gc_store.specs.declared.root.GcRootIndex.{GcRootIndex}
 use Rattle.gc_store.specs.declared.root.RawValue.{RawValue}
 use Rattle.gc_store.specs.declared.root.RootFault.{RootFault}
 use Rattle.gc_store.specs.Roots.{NamesReference}
+use Rattle.gc_store.specs.Values.{raw_handle}
 use Rattle.gc_script.specs.Slots.{RunnerView}
 use Rattle.gc_script.specs.State.{State, HoldsState}
 use Rattle.gc_script.specs.Given.{Given, is, given_register, named, is_unset, is_gone}
 use Rattle.gc_script.specs.Steps.{first_failing, tests}
 use Rattle.gc_script.specs.Shapes.{shape}
 use Rattle.gc_script.specs.Run.{GoesOn}
-use Rattle.gc_script.specs.Values.{raw_handle, IsFound}
+use Rattle.gc_script.specs.Values.{IsFound}
 use Rattle.gc_script.proofs.StandLemmas.{holds_table}
 use Rattle.gc_script.proofs.TestLemmas.{answers_by}
 use Rattle.gc_script.proofs.FoundLemmas.{NamesRoot, root_of, named_is}

@@ -28,6 +28,7 @@ use Rattle.gc_store.specs.OwnedRoots.{MadeOwned, MakesOwned, DropsHandle, Releas
 use Rattle.gc_store.specs.Roots.{is_of_store, owned_handle, NamesReference, NamesNothing, TellsReference}
 use Rattle.gc_store.specs.Stores.{IsSameStore}
 use Rattle.gc_store.proofs.HandleWords.{owned-of_store, named_alone, named_held}
+use Rattle.gc_store.specs.Values.{raw_handle}
 use Rattle.gc_commands.specs.declared.command.Command.TheVariants as command
 use Rattle.gc_commands.specs.declared.reply.Reply.TheVariants as reply
 use Rattle.gc_commands.specs.declared.reply.Refusal.{Refusal}
@@ -38,7 +39,7 @@ use Rattle.gc_script.specs.Given.{Given, unset, gone, is, given_register, given_
 use Rattle.gc_script.specs.Shapes.{shape, slot_of, give_up, owns_as, owned_named, owned_class, roots_as, unroots}
 use Rattle.gc_script.specs.Steps.{tests, first_failing, owning_tests, owned_tests}
 use Rattle.gc_script.specs.Run.{GoesOn}
-use Rattle.gc_script.specs.Values.{raw_handle, raw_slot, reference_tests, FoundReference}
+use Rattle.gc_script.specs.Values.{raw_slot, reference_tests, FoundReference}
 use Rattle.gc_script.specs.Wants.{IsUnrefused, MayWant}
 use Rattle.gc_script.proofs.WantLemmas.{unrefused_by, full_only}
 use Rattle.gc_script.proofs.StandLemmas.{stands_kept, owned_stands, holds_same, same_twice}

@@ -17,13 +17,13 @@ use Rattle.gc_store.specs.declared.root.RootFault.{RootFault}
 use Rattle.gc_store.specs.declared.root.RootFault.TheVariants as fault
 use Rattle.gc_store.specs.declared.root.RootedObject.{RootedObject}
 use Rattle.gc_store.specs.Roots.{Names, NamesReference, NamesNothing, TellsReference, is_of_store, handle_of}
-use Rattle.gc_store.specs.Values.{RawStands}
+use Rattle.gc_store.specs.Values.{RawStands, raw_handle}
 use Rattle.gc_store.specs.declared.root.RootSlot.TheVariants as root_slot
 use Rattle.gc_store.specs.Words.{owned_id}
 use Rattle.gc_store.proofs.HandleWords.{names-store, named_alone}
 use Rattle.gc_script.specs.State.{Held, number, reference, Stands}
 use Rattle.gc_script.specs.Given.{gone, is, given_held, given_root}
-use Rattle.gc_script.specs.Values.{raw_handle, raw_slot, IsFound}
+use Rattle.gc_script.specs.Values.{raw_slot, IsFound}
 
 -- what is no handle stands for a value
 pub found_plain : (s : StoreView ℕ) (t : Table ℕ) (r : RawValue) (held : Option Held) → raw_handle r ≡ None → Stands s t (Some r) held → IsFound s t r (given_held t held) true

@@ -72,17 +72,6 @@ HasUnset slots operands = (store : StoreView ℕ) (s : State) → AreRegisters s
 abbrev pub AreSet : List (Option RawValue) → List Operand → Type 0
 AreSet slots operands = (store : StoreView ℕ) (s : State) → AreRegisters store slots s → any_unset s operands ≡ false
 
--- the handle that a value is, where it is one
-abbrev pub raw_handle : RawValue → Option GcRootIndex
-raw_handle (raw.I32 n) = None
-raw_handle (raw.I64 n) = None
-raw_handle (raw.F32 n) = None
-raw_handle (raw.F64 n) = None
-raw_handle (raw.V128 n) = None
-raw_handle (raw.Func f) = None
-raw_handle (raw.Cont c) = None
-raw_handle (raw.Ref class handle) = handle
-
 -- what is told of a handle, where there is one: what it names in a table
 abbrev pub TellsHandle : StoreView ℕ → Table ℕ → Option GcRootIndex → Option RootedObject → Type 0
 TellsHandle store t None object = object ≡ None

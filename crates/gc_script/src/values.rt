@@ -4,11 +4,11 @@ ghost use Rattle.std.specs.Prelude.{◌≡◌, ℕ, false, List, Option, Some, i
 ghost use Rattle.gc_model.specs.Holds.{HoldsTable};
 ghost use Rattle.gc_model.specs.Table.{Table};
 ghost use Rattle.gc_commands.specs.declared.command.Operand.{Operand};
-ghost use Rattle.gc_store.specs.Values.{NamesLive};
+ghost use Rattle.gc_store.specs.Values.{NamesLive, raw_handle};
 ghost use Rattle.gc_script.specs.State.{State, Held, Stands};
 ghost use Rattle.gc_script.specs.Given.{held_operand, given_held};
 ghost use Rattle.gc_script.specs.Values.{HoldsOperand, raw_operand, set_operand, set_operands, HasUnset, AreSet, AllHeld};
-ghost use Rattle.gc_script.specs.Values.{raw_handle, raw_slot, TellsHandle, is_opaque, AllPlain, IsFound, CanStoreAs, AllStorable};
+ghost use Rattle.gc_script.specs.Values.{raw_slot, TellsHandle, is_opaque, AllPlain, IsFound, CanStoreAs, AllStorable};
 ghost use Rattle.gc_script.specs.Values.{ChecksValue, ChecksValues};
 
 use crate::fits::fits;

@@ -12,7 +12,7 @@ pub returns-clause-runs : goal.returns-clause-runs
 returns-clause-runs g c limits s holds =
     let answer = reply.Increments c.gc_by_increments.result in
     runs_rest g.H.GcHeap.KIND c.args.store.now.alloc_counter limits limits s GcInc [] (Ok answer) c.gc_by_increments.new.self c.args.self.now refl
-    (collected g.H.GcHeap.KIND c.args.store.now.alloc_counter limits c.args.store.now c.gc_by_increments.new.self c.args.self.now s of_increments answer c.gc_by_increments.ensures.same holds
+    (collected g.H.GcHeap.KIND c.args.store.now.alloc_counter limits c.args.store.now c.gc_by_increments.new.self c.args.self.now s of_increments answer c.gc_by_increments.ensures.collected.same holds
     (record { increments = c.gc_by_increments.result; shows = refl; takes = c.gc_by_increments.ensures.increments s.table (holds_table holds.table) })
     (λ attached. c.gc_by_increments.ensures.collected.collects s.table s.account limits attached holds.table)
     c.gc_by_increments.ensures.collected.unmade)
