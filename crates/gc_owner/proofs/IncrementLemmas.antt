@@ -9,15 +9,28 @@ use Rattle.gc_roots.specs.Roots.{Root}
 use Rattle.gc_view.specs.Heaps.{HeapView}
 use Rattle.gc_heap.specs.Content.{IsHeap}
 use Rattle.gc_heap.specs.Collection.{Stage, Start, CanCollect, Collected, has_host, IsPartOf, moved_root}
+use Rattle.gc_heap.specs.declared.collection.GcProgress.{GcProgress}
 use Rattle.gc_heap.specs.declared.collection.GcProgress.TheVariants as progress
 use Rattle.gc_heap.proofs.AddedLemmas.{start}
 use Rattle.gc_owner.specs.RootColumns.{RootsView, roots_of, moved_roots, with_list, without_list}
-use Rattle.gc_owner.specs.Going.{IsListed, StepsRoots, HasMovedList}
+use Rattle.gc_owner.specs.Going.{IsListed, StepsRoots, HasMovedList, Settles}
 use Rattle.gc_owner.specs.Owners.{OwnerView, OwnerValue, IsReady, InOrder, Goes, IsGoing, IsUnderWay, IncrementsCounted, CollectsRoots, owner_value, start_of}
 use Rattle.gc_owner.specs.Tracing.{AreTraced, IsCollectable}
 use Rattle.gc_owner.proofs.Begins.{memory_same, memory_heap}
 use Rattle.gc_owner.proofs.CollectedRoots.{collects_roots}
 use Rattle.gc_owner.proofs.OwnerLemmas.{kind_of, ready_at, idle_at}
+
+-- three things are what they were
+three_same : {A B C : Type 0} (P : A → B → C → Type 0) (a a' : A) (b b' : B) (c c' : C) → a' ≡ a → b' ≡ b → c' ≡ c → P a b c → P a' b' c'
+three_same P a a' b b' c c' of_a of_b of_c known =
+    subst (λ z. P a' b' z) (sym of_c) (subst (λ z. P a' z c) (sym of_b) (subst (λ z. P z b c) (sym of_a) known))
+
+-- the state that an increment leaves, by what it answers
+pub settled_none : {S : Type 0} (state : S) (allocated : ℕ) (old new : RootsView) (last last' : ℕ) (kept : Option S) (p : GcProgress) → Settles state allocated old new last last' kept p → p ≡ progress.Complete → kept ≡ None
+settled_none state allocated old new last last' kept p set is = (subst (Settles state allocated old new last last' kept) is set).0
+
+pub settled_some : {S : Type 0} (state : S) (allocated : ℕ) (old new : RootsView) (last last' : ℕ) (kept : Option S) (p : GcProgress) → Settles state allocated old new last last' kept p → p ≡ progress.Continue → kept ≡ Some state
+settled_some state allocated old new last last' kept p set is = (subst (Settles state allocated old new last last' kept) is set).0
 
 -- a collection that began there is complete
 completed : (layouts : Layouts) (s : Start) (r r' : RootsView) (new : HeapView) (listed : List Root) (hosts' : ℕ → Bool) → IsHeap layouts s.heap → CanCollect layouts s → AreTraced layouts s.types s.heap → s.roots ≡ roots_of r → Collected layouts s new listed hosts'
@@ -199,3 +212,31 @@ module _ {H S D : Type 0} (layouts : Layouts) (seen : H → HeapView) (sound : H
               };
             },
           )
+
+    -- what settling needs and leaves, whatever the increment answers
+    pub can_settle : (p : GcProgress) (s : Start) (n : ℕ) (c : Bool) → Goes (kind_of layouts seen sound under_way) s n c before state → StepsRoots layouts under_way sound s n d roots roots' heap' (seen heap') state' types.declarations hosts' p → p ≡ progress.Complete
+        → sound heap' × HasMovedList roots'
+    can_settle p s n c goes step is =
+        let last_step : StepsRoots layouts under_way sound s n d roots roots' heap' (seen heap') state' types.declarations hosts' progress.Complete =
+        subst (λ (q : GcProgress). StepsRoots layouts under_way sound s n d roots roots' heap' (seen heap') state' types.declarations hosts' q) is step in
+        (last_step.steps.1.0, has_moved s n c goes last_step)
+
+    pub settled_order : (p : GcProgress) (roots'' : RootsView) (last' : ℕ) (kept : Option S) → Settles state' (seen heap').allocated roots' roots'' last last' kept p → ((h : H) → sound h → IsHeap layouts (seen h))
+        → (s : Start) (n : ℕ) (c : Bool) → Goes (kind_of layouts seen sound under_way) s n c before state → StepsRoots layouts under_way sound s n d roots roots' heap' (seen heap') state' types.declarations hosts' p
+        → InOrder (kind_of layouts seen sound under_way) (owner_value (seen heap') types hosts' roots'' last' heap' kept) kept
+    settled_order progress.Continue roots'' last' kept set is_heap s n c goes step =
+        three_same (λ (r : RootsView) (l : ℕ) (o : Option S). InOrder (kind_of layouts seen sound under_way) (owner_value (seen heap') types hosts' r l heap' o) o)
+        roots' roots'' last last' (Some state') kept set.1 set.2 set.0 (s, (n + 1, (d, goes_on s n c goes step)))
+    settled_order progress.Complete roots'' last' kept set is_heap s n c goes step =
+        subst (λ (o : Option S). InOrder (kind_of layouts seen sound under_way) (owner_value (seen heap') types hosts' roots'' last' heap' o) o) (sym set.0)
+        (ends_ready roots'' last' set.2 is_heap s n c goes step)
+
+    pub settled_way : (p : GcProgress) (roots'' : RootsView) (last' : ℕ) (kept : Option S) → Settles state' (seen heap').allocated roots' roots'' last last' kept p → ((h : H) → sound h → IsHeap layouts (seen h))
+        → (s : Start) (n : ℕ) (c : Bool) (begun now : OwnerValue H S D) → before ≡ now → IsUnderWay (kind_of layouts seen sound under_way) s n c begun now → StepsRoots layouts under_way sound s n d roots roots' heap' (seen heap') state' types.declarations hosts' p
+        → IsPartOf hosts' hosts → IncrementsCounted (kind_of layouts seen sound under_way) s (n + 1) d begun (owner_value (seen heap') types hosts' roots'' last' heap' kept) p
+    settled_way progress.Continue roots'' last' kept set is_heap s n c begun now is way step values =
+        three_same (λ (r : RootsView) (l : ℕ) (o : Option S). IncrementsCounted (kind_of layouts seen sound under_way) s (n + 1) d begun (owner_value (seen heap') types hosts' r l heap' o) progress.Continue)
+        roots' roots'' last last' (Some state') kept set.1 set.2 set.0 (way_on s n c begun now is way step values)
+    settled_way progress.Complete roots'' last' kept set is_heap s n c begun now is way step values =
+        subst (λ (o : Option S). IncrementsCounted (kind_of layouts seen sound under_way) s (n + 1) d begun (owner_value (seen heap') types hosts' roots'' last' heap' o) progress.Complete) (sym set.0)
+        (way_ends roots'' last' set.2 is_heap s n c begun now is way step values set.1)

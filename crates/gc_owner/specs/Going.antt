@@ -9,7 +9,8 @@ use Rattle.gc_view.specs.Heaps.{HeapView}
 use Rattle.gc_heap.specs.Collection.{Stage, stage, Start, Collected, has_host, moved_root, Stepped}
 use Rattle.gc_heap.specs.Collection as collection
 use Rattle.gc_heap.specs.declared.collection.GcProgress.{GcProgress}
-use Rattle.gc_owner.specs.RootColumns.{RootsView, roots_of}
+use Rattle.gc_heap.specs.declared.collection.GcProgress.TheVariants as progress
+use Rattle.gc_owner.specs.RootColumns.{RootsView, roots_of, moved_roots, without_list}
 
 -- some collection is under way that has a list of the roots
 abbrev pub IsListed : {H S D : Type 0} → (Start → ℕ → Bool → Stage H S → Type 0) → RootsView → H → S → List Declaration
@@ -35,3 +36,11 @@ HasMovedList r = (to : ℕ → ℕ) × ((r.listed ≡ Some (map (moved_root to) 
 abbrev pub left_of : {H S : Type 0} → (H → S → ℕ) → H → Option S → ℕ
 left_of left heap None = 0
 left_of left heap (Some state) = left heap state
+
+-- What an increment that was done leaves: the state of a collection that goes on, and all else as it was; of one that is complete no
+-- state, so many bytes that are allocated, and the roots with the words of the list.
+abbrev pub Settles : {S : Type 0} → S → ℕ → RootsView → RootsView → ℕ → ℕ → Option S → GcProgress → Type 0
+Settles state allocated old new last last' kept progress.Continue = (kept ≡ Some state) × (new ≡ old) × (last' ≡ last)
+Settles state allocated old new last last' kept progress.Complete =
+    (kept ≡ None) × (last' ≡ allocated)
+    × ((to : ℕ → ℕ) → old.listed ≡ Some (map (moved_root to) (roots_of old)) → new ≡ moved_roots to (without_list old))

@@ -7,6 +7,7 @@ ghost use Rattle.gc_owner.specs.Counting.{CountsSteps, ticks_of};
 ghost use Rattle.gc_owner.specs.Going.{IsListed, StepsRoots, left_of};
 ghost use Rattle.gc_owner.specs.Owners.{OwnerValue, IncrementsCounted, IsEnded, IsUnderWay, kind_of};
 
+use crate::increments::settle;
 use crate::owner::HeapOwner;
 use crate::roots::Roots;
 use gc_heap::{GcHeap, GcProgress, GcStoreTraceState};
@@ -63,24 +64,18 @@ impl<H: GcHeap, D: Drop> HeapOwner<H, D> {
         ensures less { result ≡ GcProgress.Continue → left_of H.left self.new.heap self.new.state < left_of H.left self.old.heap self.old.state }
     {
         match self.state.take() {
-            Some(mut state) => match step_in_counted(
-                &mut self.heap,
-                &mut state,
-                &mut self.roots,
-                &mut self.hosts,
-                &self.types,
-                steps,
-            ) {
-                GcProgress::Continue => {
-                    self.state = Some(state);
-                    GcProgress::Continue
-                }
-                GcProgress::Complete => {
-                    self.roots.take_roots();
-                    self.last = self.heap.allocated_bytes();
-                    GcProgress::Complete
-                }
-            },
+            Some(mut state) => {
+                let progress = step_in_counted(
+                    &mut self.heap,
+                    &mut state,
+                    &mut self.roots,
+                    &mut self.hosts,
+                    &self.types,
+                    steps,
+                );
+                self.state = settle(progress, state, &self.heap, &mut self.roots, &mut self.last);
+                progress
+            }
             None => GcProgress::Complete,
         }
     }

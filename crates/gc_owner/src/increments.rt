@@ -4,7 +4,7 @@ ghost use Rattle.std.specs.Prelude.{◌≡◌, ◌+◌, ◌<◌, ℕ, Bool, List
 ghost use Rattle.gc_roots.specs.Roots.{Root};
 ghost use Rattle.gc_heap.specs.Collection.{Start, stage, IsPartOf};
 ghost use Rattle.gc_owner.specs.Counting.{ticks_of};
-ghost use Rattle.gc_owner.specs.Going.{IsListed, StepsRoots, left_of};
+ghost use Rattle.gc_owner.specs.Going.{HasMovedList, IsListed, Settles, StepsRoots, left_of};
 ghost use Rattle.gc_owner.specs.Owners.{OwnerValue, Increments, IsEnded, IsGoing, IsUnderWay, kind_of, start_of};
 
 use crate::owner::HeapOwner;
@@ -34,6 +34,28 @@ fn step_in<H: GcHeap, D: Drop>(
         types,
     };
     roots.step(heap, state, &mut trace)
+}
+
+/// Ends an increment. The state of a collection that goes on is kept; of one that is complete none is, the roots take
+/// the words of the objects that moved, and the bytes that are allocated then are the last collection's.
+pub(crate) fn settle<H: GcHeap>(
+    progress: GcProgress,
+    state: H::State,
+    heap: &H,
+    roots: &mut Roots,
+    last: &mut usize,
+) -> Option<H::State>
+    requires { progress ≡ GcProgress.Complete → H.sound heap.now × HasMovedList roots.old }
+    ensures { Settles state (H.seen heap.now).allocated roots.old roots.new last.old last.new result progress }
+{
+    match progress {
+        GcProgress::Continue => Some(state),
+        GcProgress::Complete => {
+            roots.take_roots();
+            *last = heap.allocated_bytes();
+            None
+        }
+    }
 }
 
 impl<H: GcHeap, D: Drop> HeapOwner<H, D> {
@@ -80,23 +102,17 @@ impl<H: GcHeap, D: Drop> HeapOwner<H, D> {
         ensures less { result ≡ GcProgress.Continue → left_of H.left self.new.heap self.new.state < left_of H.left self.old.heap self.old.state }
     {
         match self.state.take() {
-            Some(mut state) => match step_in(
-                &mut self.heap,
-                &mut state,
-                &mut self.roots,
-                &mut self.hosts,
-                &self.types,
-            ) {
-                GcProgress::Continue => {
-                    self.state = Some(state);
-                    GcProgress::Continue
-                }
-                GcProgress::Complete => {
-                    self.roots.take_roots();
-                    self.last = self.heap.allocated_bytes();
-                    GcProgress::Complete
-                }
-            },
+            Some(mut state) => {
+                let progress = step_in(
+                    &mut self.heap,
+                    &mut state,
+                    &mut self.roots,
+                    &mut self.hosts,
+                    &self.types,
+                );
+                self.state = settle(progress, state, &self.heap, &mut self.roots, &mut self.last);
+                progress
+            }
             None => GcProgress::Complete,
         }
     }

@@ -1,36 +1,43 @@
-use Rattle.std.proofs.Common.{◌+◌, false, Option, sym, ◌∙◌, subst}
-use Rattle.gc_owner.specs.Owners.{InOrder, IncrementsCounted, owner_value}
-use Rattle.gc_heap.specs.declared.collection.GcProgress.TheVariants as progress
-use Rattle.gc_owner.proofs.OwnerLemmas.{kind_of}
-use Rattle.gc_owner.proofs.IncrementLemmas.{going, is_listed, goes_on, way_goes, way_on, has_moved, ends_ready, way_ends}
+use Rattle.std.proofs.Common.{◌<◌, ◌+◌, ◌≡◌, false, Option, sym, ap, ◌∙◌, is_none, subst}
+use Rattle.gc_owner.specs.Going.{left_of}
+use Rattle.gc_owner.specs.Owners.{OwnerValue}
+use Rattle.gc_owner.specs.Counting.{ticks_of}
+use Rattle.gc_owner.proofs.IncrementLemmas.{going, is_listed, way_goes, can_settle, settled_order, settled_way, settled_none, settled_some}
 use Rattle.gc_owner.proofs.owner.HeapOwner.increment_counted.Goals as goal
 
-pub step_in_counted-requires : goal.step_in_counted-requires
-step_in_counted-requires g c = is_listed g.H.GcHeap.KIND g.H.GcHeap.seen g.H.GcHeap.sound g.H.GcHeap.under_way c.self.inside.heap c.self.inside.types c.self.inside.hosts.entries c.self.inside.roots c.self.inside.last c.self.inside.state c.in-Some.state (sym c.take.ensures.value ∙ c.in-Some.is) c.self.inside.heap c.self.inside.hosts.entries c.self.inside.roots c.in-Some.state false c.self.invariant
+pub step_in_counted-progress-requires : goal.step_in_counted-progress-requires
+step_in_counted-progress-requires g c = is_listed g.H.GcHeap.KIND g.H.GcHeap.seen g.H.GcHeap.sound g.H.GcHeap.under_way c.self.inside.heap c.self.inside.types c.self.inside.hosts.entries c.self.inside.roots c.self.inside.last c.self.inside.state c.in-Some.state (sym c.take.ensures.value ∙ c.in-Some.is) c.self.inside.heap c.self.inside.hosts.entries c.self.inside.roots c.in-Some.state false c.self.invariant
+
+pub settle-requires : goal.settle-requires
+settle-requires g c =
+    let at = going g.H.GcHeap.KIND g.H.GcHeap.seen g.H.GcHeap.sound g.H.GcHeap.under_way c.self.inside.heap c.self.inside.types c.self.inside.hosts.entries c.self.inside.roots c.self.inside.last c.self.inside.state c.in-Some.state (sym c.take.ensures.value ∙ c.in-Some.is) c.step_in_counted-progress.new.heap c.step_in_counted-progress.new.hosts.entries c.step_in_counted-progress.new.roots c.step_in_counted-progress.new.state false c.self.invariant in
+    can_settle g.H.GcHeap.KIND g.H.GcHeap.seen g.H.GcHeap.sound g.H.GcHeap.under_way c.self.inside.heap c.self.inside.types c.self.inside.hosts.entries c.self.inside.roots c.self.inside.last c.self.inside.state c.in-Some.state (sym c.take.ensures.value ∙ c.in-Some.is) c.step_in_counted-progress.new.heap c.step_in_counted-progress.new.hosts.entries c.step_in_counted-progress.new.roots c.step_in_counted-progress.new.state at.1.1.0 c.step_in_counted-progress.result at.0 at.1.0 at.1.1.0 at.1.1.1 (c.step_in_counted-progress.ensures.step at.0 at.1.0 at.1.1.0 at.1.1.1.listed at.1.1.1.listed_is at.1.1.1.goes)
 
 pub invariant_of-self : goal.invariant_of-self
 invariant_of-self g c =
-    let at = going g.H.GcHeap.KIND g.H.GcHeap.seen g.H.GcHeap.sound g.H.GcHeap.under_way c.self.inside.heap c.self.inside.types c.self.inside.hosts.entries c.self.inside.roots c.self.inside.last c.self.inside.state c.in-Some.state (sym c.take.ensures.value ∙ c.in-Some.is) c.step_in_counted.new.heap c.step_in_counted.new.hosts.entries c.step_in_counted.new.roots c.step_in_counted.new.state false c.self.invariant in
-    (at.0, (at.1.0 + 1, (at.1.1.0, goes_on g.H.GcHeap.KIND g.H.GcHeap.seen g.H.GcHeap.sound g.H.GcHeap.under_way c.self.inside.heap c.self.inside.types c.self.inside.hosts.entries c.self.inside.roots c.self.inside.last c.self.inside.state c.in-Some.state (sym c.take.ensures.value ∙ c.in-Some.is) c.step_in_counted.new.heap c.step_in_counted.new.hosts.entries c.step_in_counted.new.roots c.step_in_counted.new.state at.1.1.0 at.0 at.1.0 at.1.1.0 at.1.1.1 (c.in-Continue.ensures.step at.0 at.1.0 at.1.1.0 at.1.1.1.listed at.1.1.1.listed_is at.1.1.1.goes))))
+    let at = going g.H.GcHeap.KIND g.H.GcHeap.seen g.H.GcHeap.sound g.H.GcHeap.under_way c.self.inside.heap c.self.inside.types c.self.inside.hosts.entries c.self.inside.roots c.self.inside.last c.self.inside.state c.in-Some.state (sym c.take.ensures.value ∙ c.in-Some.is) c.step_in_counted-progress.new.heap c.step_in_counted-progress.new.hosts.entries c.step_in_counted-progress.new.roots c.step_in_counted-progress.new.state false c.self.invariant in
+    settled_order g.H.GcHeap.KIND g.H.GcHeap.seen g.H.GcHeap.sound g.H.GcHeap.under_way c.self.inside.heap c.self.inside.types c.self.inside.hosts.entries c.self.inside.roots c.self.inside.last c.self.inside.state c.in-Some.state (sym c.take.ensures.value ∙ c.in-Some.is) c.step_in_counted-progress.new.heap c.step_in_counted-progress.new.hosts.entries c.step_in_counted-progress.new.roots c.step_in_counted-progress.new.state at.1.1.0 c.step_in_counted-progress.result c.settle.new.roots c.settle.new.last c.settle.result c.settle.ensures g.met.H.GcHeap.is_heap at.0 at.1.0 at.1.1.0 at.1.1.1 (c.step_in_counted-progress.ensures.step at.0 at.1.0 at.1.1.0 at.1.1.1.listed at.1.1.1.listed_is at.1.1.1.goes)
 
-pub take_roots-requires : goal.take_roots-requires
-take_roots-requires g c =
-    let at = going g.H.GcHeap.KIND g.H.GcHeap.seen g.H.GcHeap.sound g.H.GcHeap.under_way c.self.inside.heap c.self.inside.types c.self.inside.hosts.entries c.self.inside.roots c.self.inside.last c.self.inside.state c.in-Some.state (sym c.take.ensures.value ∙ c.in-Some.is) c.step_in_counted.new.heap c.step_in_counted.new.hosts.entries c.step_in_counted.new.roots c.step_in_counted.new.state false c.self.invariant in
-    has_moved g.H.GcHeap.KIND g.H.GcHeap.seen g.H.GcHeap.sound g.H.GcHeap.under_way c.self.inside.heap c.self.inside.types c.self.inside.hosts.entries c.self.inside.roots c.self.inside.last c.self.inside.state c.in-Some.state (sym c.take.ensures.value ∙ c.in-Some.is) c.step_in_counted.new.heap c.step_in_counted.new.hosts.entries c.step_in_counted.new.roots c.step_in_counted.new.state at.1.1.0 at.0 at.1.0 at.1.1.0 at.1.1.1 (c.in-Complete.ensures.step at.0 at.1.0 at.1.1.0 at.1.1.1.listed at.1.1.1.listed_is at.1.1.1.goes)
+pub returns-in-Some-clause-goes : goal.returns-in-Some-clause-goes
+returns-in-Some-clause-goes g c = λ s n d begun way.
+    let w = way_goes g.H.GcHeap.KIND g.H.GcHeap.seen g.H.GcHeap.sound g.H.GcHeap.under_way c.self.inside.heap c.self.inside.types c.self.inside.hosts.entries c.self.inside.roots c.self.inside.last c.self.inside.state c.in-Some.state (sym c.take.ensures.value ∙ c.in-Some.is) c.step_in_counted-progress.new.heap c.step_in_counted-progress.new.hosts.entries c.step_in_counted-progress.new.roots c.step_in_counted-progress.new.state d s n d begun c.args.self.now c.self.view_is way in
+    settled_way g.H.GcHeap.KIND g.H.GcHeap.seen g.H.GcHeap.sound g.H.GcHeap.under_way c.self.inside.heap c.self.inside.types c.self.inside.hosts.entries c.self.inside.roots c.self.inside.last c.self.inside.state c.in-Some.state (sym c.take.ensures.value ∙ c.in-Some.is) c.step_in_counted-progress.new.heap c.step_in_counted-progress.new.hosts.entries c.step_in_counted-progress.new.roots c.step_in_counted-progress.new.state d c.step_in_counted-progress.result c.settle.new.roots c.settle.new.last c.settle.result c.settle.ensures g.met.H.GcHeap.is_heap s n d begun c.args.self.now c.self.view_is way (c.step_in_counted-progress.ensures.step s n d w.listed w.listed_is w.goes) c.step_in_counted-progress.ensures.values
 
-pub invariant_of-self-in-Complete-1 : goal.invariant_of-self-in-Complete-1
-invariant_of-self-in-Complete-1 g c =
-    let at = going g.H.GcHeap.KIND g.H.GcHeap.seen g.H.GcHeap.sound g.H.GcHeap.under_way c.self.inside.heap c.self.inside.types c.self.inside.hosts.entries c.self.inside.roots c.self.inside.last c.self.inside.state c.in-Some.state (sym c.take.ensures.value ∙ c.in-Some.is) c.step_in_counted.new.heap c.step_in_counted.new.hosts.entries c.step_in_counted.new.roots c.step_in_counted.new.state false c.self.invariant in
-    subst (λ (o : Option g.row.H-State.Denot). InOrder (kind_of g.H.GcHeap.KIND g.H.GcHeap.seen g.H.GcHeap.sound g.H.GcHeap.under_way) (owner_value (g.H.GcHeap.seen c.step_in_counted.new.heap) c.self.inside.types c.step_in_counted.new.hosts.entries c.take_roots.new.self c.allocated_bytes-self-inside.result c.step_in_counted.new.heap o) o) (sym c.take.ensures.after)
-    (ends_ready g.H.GcHeap.KIND g.H.GcHeap.seen g.H.GcHeap.sound g.H.GcHeap.under_way c.self.inside.heap c.self.inside.types c.self.inside.hosts.entries c.self.inside.roots c.self.inside.last c.self.inside.state c.in-Some.state (sym c.take.ensures.value ∙ c.in-Some.is) c.step_in_counted.new.heap c.step_in_counted.new.hosts.entries c.step_in_counted.new.roots c.step_in_counted.new.state at.1.1.0 c.take_roots.new.self c.allocated_bytes-self-inside.result c.take_roots.ensures g.met.H.GcHeap.is_heap at.0 at.1.0 at.1.1.0 at.1.1.1 (c.in-Complete.ensures.step at.0 at.1.0 at.1.1.0 at.1.1.1.listed at.1.1.1.listed_is at.1.1.1.goes))
+pub returns-in-Some-clause-complete : goal.returns-in-Some-clause-complete
+returns-in-Some-clause-complete g c = λ is. ap is_none (settled_none c.step_in_counted-progress.new.state (g.H.GcHeap.seen c.step_in_counted-progress.new.heap).allocated c.step_in_counted-progress.new.roots c.settle.new.roots c.self.inside.last c.settle.new.last c.settle.result c.step_in_counted-progress.result c.settle.ensures is)
 
-pub returns-in-Continue-clause-goes : goal.returns-in-Continue-clause-goes
-returns-in-Continue-clause-goes g c = λ s n d begun way.
-    let w = way_goes g.H.GcHeap.KIND g.H.GcHeap.seen g.H.GcHeap.sound g.H.GcHeap.under_way c.self.inside.heap c.self.inside.types c.self.inside.hosts.entries c.self.inside.roots c.self.inside.last c.self.inside.state c.in-Some.state (sym c.take.ensures.value ∙ c.in-Some.is) c.step_in_counted.new.heap c.step_in_counted.new.hosts.entries c.step_in_counted.new.roots c.step_in_counted.new.state d s n d begun c.args.self.now c.self.view_is way in
-    way_on g.H.GcHeap.KIND g.H.GcHeap.seen g.H.GcHeap.sound g.H.GcHeap.under_way c.self.inside.heap c.self.inside.types c.self.inside.hosts.entries c.self.inside.roots c.self.inside.last c.self.inside.state c.in-Some.state (sym c.take.ensures.value ∙ c.in-Some.is) c.step_in_counted.new.heap c.step_in_counted.new.hosts.entries c.step_in_counted.new.roots c.step_in_counted.new.state d s n d begun c.args.self.now c.self.view_is way (c.in-Continue.ensures.step s n d w.listed w.listed_is w.goes) c.step_in_counted.ensures.values
+pub returns-in-Some-clause-less : goal.returns-in-Some-clause-less
+returns-in-Some-clause-less g c = λ is.
+    subst (λ (v : OwnerValue g.row.H.Denot g.row.H-State.Denot g.row.D.Denot). left_of g.H.GcHeap.left c.step_in_counted-progress.new.heap c.settle.result < left_of g.H.GcHeap.left v.heap v.state) c.self.view_is
+    (subst (λ (o : Option g.row.H-State.Denot). left_of g.H.GcHeap.left c.step_in_counted-progress.new.heap o < left_of g.H.GcHeap.left c.self.inside.heap c.self.inside.state)
+    (sym (settled_some c.step_in_counted-progress.new.state (g.H.GcHeap.seen c.step_in_counted-progress.new.heap).allocated c.step_in_counted-progress.new.roots c.settle.new.roots c.self.inside.last c.settle.new.last c.settle.result c.step_in_counted-progress.result c.settle.ensures is))
+    (subst (λ (o : Option g.row.H-State.Denot). g.H.GcHeap.left c.step_in_counted-progress.new.heap c.step_in_counted-progress.new.state < left_of g.H.GcHeap.left c.self.inside.heap o)
+    (sym (sym c.take.ensures.value ∙ c.in-Some.is)) (c.step_in_counted-progress.ensures.less is)))
 
-pub returns-in-Complete-clause-goes : goal.returns-in-Complete-clause-goes
-returns-in-Complete-clause-goes g c = λ s n d begun way.
-    let w = way_goes g.H.GcHeap.KIND g.H.GcHeap.seen g.H.GcHeap.sound g.H.GcHeap.under_way c.self.inside.heap c.self.inside.types c.self.inside.hosts.entries c.self.inside.roots c.self.inside.last c.self.inside.state c.in-Some.state (sym c.take.ensures.value ∙ c.in-Some.is) c.step_in_counted.new.heap c.step_in_counted.new.hosts.entries c.step_in_counted.new.roots c.step_in_counted.new.state d s n d begun c.args.self.now c.self.view_is way in
-    subst (λ (o : Option g.row.H-State.Denot). IncrementsCounted (kind_of g.H.GcHeap.KIND g.H.GcHeap.seen g.H.GcHeap.sound g.H.GcHeap.under_way) s (n + 1) d begun (owner_value (g.H.GcHeap.seen c.step_in_counted.new.heap) c.self.inside.types c.step_in_counted.new.hosts.entries c.take_roots.new.self c.allocated_bytes-self-inside.result c.step_in_counted.new.heap o) progress.Complete) (sym c.take.ensures.after)
-    (way_ends g.H.GcHeap.KIND g.H.GcHeap.seen g.H.GcHeap.sound g.H.GcHeap.under_way c.self.inside.heap c.self.inside.types c.self.inside.hosts.entries c.self.inside.roots c.self.inside.last c.self.inside.state c.in-Some.state (sym c.take.ensures.value ∙ c.in-Some.is) c.step_in_counted.new.heap c.step_in_counted.new.hosts.entries c.step_in_counted.new.roots c.step_in_counted.new.state d c.take_roots.new.self c.allocated_bytes-self-inside.result c.take_roots.ensures g.met.H.GcHeap.is_heap s n d begun c.args.self.now c.self.view_is way (c.in-Complete.ensures.step s n d w.listed w.listed_is w.goes) c.step_in_counted.ensures.values c.allocated_bytes-self-inside.ensures)
+pub returns-in-Some-clause-ticks : goal.returns-in-Some-clause-ticks
+returns-in-Some-clause-ticks g c = λ is.
+    subst (λ (v : OwnerValue g.row.H.Denot g.row.H-State.Denot g.row.D.Denot). ticks_of g.H.GcHeap.ticks c.settle.result + c.args.steps.now ≡ ticks_of g.H.GcHeap.ticks v.state + c.step_in_counted-progress.new.steps) c.self.view_is
+    (subst (λ (o : Option g.row.H-State.Denot). ticks_of g.H.GcHeap.ticks o + c.args.steps.now ≡ ticks_of g.H.GcHeap.ticks c.self.inside.state + c.step_in_counted-progress.new.steps)
+    (sym (settled_some c.step_in_counted-progress.new.state (g.H.GcHeap.seen c.step_in_counted-progress.new.heap).allocated c.step_in_counted-progress.new.roots c.settle.new.roots c.self.inside.last c.settle.new.last c.settle.result c.step_in_counted-progress.result c.settle.ensures is))
+    (subst (λ (o : Option g.row.H-State.Denot). g.H.GcHeap.ticks c.step_in_counted-progress.new.state + c.args.steps.now ≡ ticks_of g.H.GcHeap.ticks o + c.step_in_counted-progress.new.steps)
+    (sym (sym c.take.ensures.value ∙ c.in-Some.is)) c.step_in_counted-progress.ensures.ticks))
