@@ -9,11 +9,11 @@ use Rattle.gc_types.specs.Declarable.{Declarable}
 use Rattle.gc_types.specs.Declarations.{Declaration, TypeName}
 use Rattle.gc_model.specs.Table.{Table, start, declare}
 use Rattle.gc_model.specs.SideValues.{InternedIds, no_ids}
-use Rattle.gc_model.specs.Stores.{StoreView, unset_globals}
+use Rattle.gc_model.specs.Stores.{StoreView, unset_globals, empty_store}
 use Rattle.gc_policy.specs.Accounts.{Account, no_account, HoldsAccount}
 use Rattle.gc_owner.specs.declared.entry.SlotEntry.{SlotEntry}
 use Rattle.gc_owner.specs.Owners.{OwnerView}
-use Rattle.gc_policy.specs.Shown.{frames_of}
+use Rattle.gc_policy.specs.Shown.{shown}
 use Rattle.gc_store.specs.declared.engine.StoreId.{StoreId}
 use Rattle.gc_store.specs.declared.config.HeapConfig.{HeapConfig}
 use Rattle.gc_store.specs.declared.interned.InternedValues.{InternedValues}
@@ -36,29 +36,8 @@ tables_of interned asked = tables_by (ids_of interned) asked
 
 -- what is seen of a store with these parts
 abbrev pub store_view : {D : Type 0} → StoreId → HeapConfig → StoreTables → OwnerView D → ℕ → StoreView D
-store_view id config tables v tries = record {
-  engine = id.engine;
-  number = id.number;
-  types = v.types.declarations;
-  heap = v.heap;
-  hosts = v.hosts;
-  scoped = v.roots.scoped;
-  generation = v.roots.generation;
-  frames = frames_of v.roots.frames v.roots.slots;
-  globals = v.roots.globals;
-  owned = v.roots.owned;
-  owns = v.roots.owns;
-  pending = v.roots.pending;
-  ids = tables.ids;
-  last = v.last;
-  tries = tries;
-  spare = v.roots.spare;
-  first = config.first_pages;
-  max_scoped = config.max_scoped;
-  max_owned = config.max_owned;
-  alloc_counter = option_map non_zero_u32_get config.alloc_counter;
-  kept_pairs = tables.kept_pairs;
-}
+store_view id config tables v tries =
+    shown (record (empty_store id.engine id.number config.first_pages config.max_scoped config.max_owned (option_map non_zero_u32_get config.alloc_counter)) { ids = tables.ids; tries = tries; kept_pairs = tables.kept_pairs }) v
 
 -- the store with another configuration
 abbrev pub configured : {D : Type 0} → HeapConfig → StoreView D → StoreView D
