@@ -1,17 +1,20 @@
 //! Reading and writing values through the store, once all tests passed.
 
-ghost use Rattle.std.specs.Prelude.{◌≡◌, ◌≤◌, ◌<◌, IfOk, OnErr, Err};
+ghost use Rattle.std.specs.Prelude.{◌≡◌, ◌≤◌, ◌<◌, ℕ, IfOk, IfSome, OnErr, Err};
+ghost use Rattle.gc_model.specs.Holds.{HoldsTable};
 ghost use Rattle.gc_model.specs.Table.{Table};
 ghost use Rattle.gc_model.specs.Values.{Value};
 ghost use Rattle.gc_policy.specs.Accounts.{Account, HoldsAccount};
-ghost use Rattle.gc_store.specs.Roots.{CanRead, HasValue};
+ghost use Rattle.gc_store.specs.Roots.{is_of_store, CanRead, HasValue};
 ghost use Rattle.gc_store.specs.Values.{CanWrite};
 ghost use Rattle.gc_store.specs.Stores.{IsSameStore, scoped_places};
 ghost use Rattle.gc_objects.specs.Given.{raw_of, ValNamesKind};
-ghost use Rattle.gc_objects.specs.Reads.{ReadsAs};
+ghost use Rattle.gc_objects.specs.Answered.{Answers, HasField};
+ghost use Rattle.gc_objects.specs.Reads.{IsTyped, ReadsAs, ReadsAt};
 ghost use Rattle.gc_objects.specs.Writes.{WritesAs};
 
-use crate::faults::AccessFault;
+use crate::faults::{AccessFault, accessed};
+use crate::places::NamedField;
 use crate::val::{Val, raw_of, val_of};
 use gc_heap::GcHeap;
 use gc_store::{GcRootIndex, RootFault, Store, WriteFault};
@@ -34,6 +37,35 @@ pub(crate) fn read<H: GcHeap, D: Drop>(
     match store.read_value(root, index) {
         Ok(value) => Ok(val_of(store, &value)),
         Err(fault) => Err(fault),
+    }
+}
+
+/// Reads the value of the field that was found of the object that a root names: `OutOfBounds` where there is none, and why it
+/// wasn't looked for.
+pub(crate) fn read_found<H: GcHeap, D: Drop>(
+    store: &mut Store<H, D>,
+    root: GcRootIndex,
+    found: Result<Option<NamedField>, RootFault>,
+) -> Result<Val, AccessFault>
+    requires { IfOk found (λ some. IfSome some (λ named. IsTyped D H.KIND store.old root named.index named.field)) }
+    ensures reads { (t : Table D) (a : Account) (index : ℕ) → HoldsAccount H.KIND store.old t a
+        → Answers store.old t (is_of_store store.old root) root (HasField t index) found
+        → ReadsAt H.KIND store.old t a root index result store.new }
+    ensures kind { IfOk result (ValNamesKind D H.KIND store.new) }
+    ensures err { OnErr result (store.new ≡ store.old) }
+    ensures same { IsSameStore store.old store.new }
+    ensures spare { scoped_places store.old ≤ scoped_places store.new }
+    ensures reserved { (t : Table D) (index : ℕ) → HoldsTable H.KIND store.old t
+        → Answers store.old t (is_of_store store.old root) root (HasField t index) found
+        → 0 < store.old.spare → result ≡ Err AccessFault.Memory → ⊥ }
+{
+    match found {
+        Ok(Some(named)) => match read(store, root, named.index) {
+            Ok(value) => Ok(value),
+            Err(fault) => Err(accessed(fault)),
+        },
+        Ok(None) => Err(AccessFault::OutOfBounds),
+        Err(fault) => Err(accessed(fault)),
     }
 }
 

@@ -17,10 +17,10 @@ ghost use Rattle.gc_objects.specs.Exns.{IsExn, HasTag, ExnCauses, AsksExn};
 ghost use Rattle.gc_objects.specs.Makes.{Makes};
 ghost use Rattle.gc_objects.specs.Reads.{ReadsAt};
 
-use crate::access::read;
+use crate::access::read_found;
 use crate::allocators::ExnRefPre;
 use crate::checks::{ValueTypes, are_own, carries_id, check_values, is_of_store};
-use crate::faults::{AccessFault, AllocFault, accessed, allocated_value};
+use crate::faults::{AccessFault, AllocFault, allocated_value};
 use crate::making::{handed, make_of};
 use crate::marks::ExnRef;
 use crate::places::{exn_at, has_param_count, param_at};
@@ -82,18 +82,8 @@ impl ExnRef {
         ensures reserved { 0 < store.old.spare → result ≡ Err AccessFault.Memory → ⊥ }
     {
         let root = this.root_index();
-        let found = match param_at(store, root, index) {
-            Ok(found) => found,
-            Err(fault) => return Err(accessed(fault)),
-        };
-        let named = match found {
-            Some(named) => named,
-            None => return Err(AccessFault::OutOfBounds),
-        };
-        match read(store, root, named.index) {
-            Ok(value) => Ok(value),
-            Err(fault) => Err(accessed(fault)),
-        }
+        let found = param_at(store, root, index);
+        read_found(store, root, found)
     }
 
     /// The exception's type: `WrongStore`, then `Unrooted`.

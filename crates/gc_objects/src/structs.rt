@@ -17,7 +17,7 @@ ghost use Rattle.gc_objects.specs.Makes.{Makes, StructCauses, AsksStruct};
 ghost use Rattle.gc_objects.specs.Reads.{ReadsAt};
 ghost use Rattle.gc_objects.specs.Writes.{SetsField};
 
-use crate::access::{read, write};
+use crate::access::{read_found, write};
 use crate::allocators::StructRefPre;
 use crate::checks::{
     ValueTypes, are_own, carries_id, check_value, check_values, is_of_store, is_own,
@@ -93,18 +93,8 @@ impl StructRef {
         ensures reserved { 0 < store.old.spare → result ≡ Err AccessFault.Memory → ⊥ }
     {
         let root = this.root_index();
-        let found = match field_at(store, root, index) {
-            Ok(found) => found,
-            Err(fault) => return Err(accessed(fault)),
-        };
-        let named = match found {
-            Some(named) => named,
-            None => return Err(AccessFault::OutOfBounds),
-        };
-        match read(store, root, named.index) {
-            Ok(value) => Ok(value),
-            Err(fault) => Err(accessed(fault)),
-        }
+        let found = field_at(store, root, index);
+        read_found(store, root, found)
     }
 
     /// Gives the field with that index another value. Of a wider number that goes into 8 or 16 bits the
