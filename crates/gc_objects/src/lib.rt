@@ -41,6 +41,6 @@ pub use faults::{AccessFault, AllocFault};
 pub use fits::raw_matches_ty;
 pub use marks::{AnyRef, ArrayRef, EqRef, ExnRef, ExternRef, StructRef};
 pub use throwing::{StoreExn, ThrowFault};
-pub use upcast::{Upcast, narrow_handles_are_wide};
+pub use upcast::{CompoundRef, Upcast, narrow_handles_are_wide};
 pub use val::Val;
 pub use values::{Elems, Fields, Values};

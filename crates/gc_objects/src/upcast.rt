@@ -7,7 +7,7 @@ ghost use Rattle.gc_store.specs.declared.root.GcRootIndex.{GcRootIndex};
 ghost use Rattle.gc_store.specs.Kinds.{NamesKind};
 
 use crate::marks::{AnyRef, ArrayRef, EqRef, StructRef};
-use gc_store::{OwnedRooted, Rooted, RootedGcRef};
+use gc_store::{GcRef, OwnedRooted, Rooted, RootedGcRef};
 
 /// Handles whose references are of class any and can be compared.
 pub trait Upcast {
@@ -32,7 +32,14 @@ pub trait Upcast {
         ensures { Self.EqRoot.index result ≡ root self };
 }
 
-impl Upcast for Rooted<StructRef> {
+/// Marks of structs and of arrays: references of class any that can be compared and are no 31-bit numbers.
+pub trait CompoundRef: GcRef {}
+
+impl CompoundRef for StructRef {}
+
+impl CompoundRef for ArrayRef {}
+
+impl<T: CompoundRef> Upcast for Rooted<T> {
     ghost root = { λ r. r.index };
 
     type AnyRoot = Rooted<AnyRef>;
@@ -48,39 +55,7 @@ impl Upcast for Rooted<StructRef> {
     }
 }
 
-impl Upcast for Rooted<ArrayRef> {
-    ghost root = { λ r. r.index };
-
-    type AnyRoot = Rooted<AnyRef>;
-
-    type EqRoot = Rooted<EqRef>;
-
-    fn to_anyref(self) -> Rooted<AnyRef> {
-        self.cast()
-    }
-
-    fn to_eqref(self) -> Rooted<EqRef> {
-        self.cast()
-    }
-}
-
-impl Upcast for OwnedRooted<StructRef> {
-    ghost root = { λ r. r.index };
-
-    type AnyRoot = OwnedRooted<AnyRef>;
-
-    type EqRoot = OwnedRooted<EqRef>;
-
-    fn to_anyref(self) -> OwnedRooted<AnyRef> {
-        self.cast()
-    }
-
-    fn to_eqref(self) -> OwnedRooted<EqRef> {
-        self.cast()
-    }
-}
-
-impl Upcast for OwnedRooted<ArrayRef> {
+impl<T: CompoundRef> Upcast for OwnedRooted<T> {
     ghost root = { λ r. r.index };
 
     type AnyRoot = OwnedRooted<AnyRef>;
