@@ -1,5 +1,5 @@
 -- What the check of a value finds, by what is found of the value that is asked about.
-use Rattle.std.proofs.Common.{◌≡◌, Bool, true, false, Option, Some, None, Result, Ok, Err, sym, ap, ◌∙◌, refl, subst, arith}
+use Rattle.std.proofs.Common.{◌≡◌, Bool, true, Option, Some, None, Result, Ok, Err, sym, ap, ◌∙◌, refl, subst, arith}
 use Rattle.std.proofs.lemmas.Option.{none-some}
 use Rattle.gc_types.specs.declared.value.ValType.{ValType}
 use Rattle.gc_owner.specs.declared.entry.GcClass.{GcClass}

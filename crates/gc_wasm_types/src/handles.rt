@@ -10,8 +10,94 @@ use crate::words::{load_owned, load_scoped, store_root, write_word};
 use gc_heap::GcHeap;
 use gc_objects::AccessFault;
 use gc_refs::ValRaw;
-use gc_store::{OwnedRooted, RootFault, Rooted, RootedGcRef, Store};
+use gc_store::{GcRef, GcRootIndex, OwnedRooted, RootFault, Rooted, RootedGcRef, Store};
 use gc_types::{HeapType, RefType, ValType};
+
+/// A handle of a root, which goes in and out of raw words: by itself, and as an `Option` of it.
+pub trait WasmHandle {
+    ghost use Rattle.std.specs.Prelude.{◌≡◌, ◌↔◌, IfOk, MatchResult, None, option_map};
+    ghost use Rattle.gc_model.specs.Holds.{Placing, IsWord};
+    ghost use Rattle.gc_model.specs.Table.{Table};
+    ghost use Rattle.gc_model.specs.Values.{Reference};
+    ghost use Rattle.gc_policy.specs.Accounts.{Account};
+    ghost use Rattle.gc_store.specs.declared.root.GcRootIndex.{GcRootIndex};
+    ghost use Rattle.gc_store.specs.OwnedWords.{HoldsThere};
+    ghost use Rattle.gc_store.specs.RawWords.{IsRawWord};
+    ghost use Rattle.gc_store.specs.Stores.{IsSameStore};
+    ghost use Rattle.gc_wasm_types.specs.Loads.{LoadsValue, RefusesLoad, ValueIsOf, KeepsRoom, WantsNoMemory};
+    ghost use Rattle.gc_wasm_types.specs.Values.{Manner, handle, or_absent, references, raw_word};
+
+    /// The root that it names.
+    ghost root: { Self → GcRootIndex };
+
+    /// What root is made for a reference that is loaded.
+    ghost MANNER: { Manner };
+
+    /// The mark of what it names.
+    type Mark: WasmRef;
+
+    /// The root that it names.
+    fn root(&self) -> GcRootIndex
+        ensures { result ≡ root self.now };
+
+    /// A handle of a new root for the reference with that word; None exactly for 0. Refused as `WasmTy::load`.
+    fn load_handle<H: GcHeap, D: Drop>(
+        store: &mut Store<H, D>,
+        from: &ValRaw,
+    ) -> Result<Option<Self>, RootFault>
+        requires { IsRawWord D H.KIND store.old Self.Mark.KIND (raw_word from.now) }
+        ensures loads { (t : Table D) (place : Placing) (a : Account) (r : Reference) → HoldsThere H.KIND store.old t place a
+            → IsWord place r (raw_word from.now)
+            → MatchResult result (λ found. LoadsValue MANNER H.KIND t place a r (or_absent (λ h. handle (root h)) found) store.new)
+            (λ why. RefusesLoad MANNER H.KIND t place a r why store.new) }
+        ensures null { IfOk result (λ found. (option_map root found ≡ None) ↔ (raw_word from.now ≡ 0)) }
+        ensures kind { IfOk result (λ found. ValueIsOf D H.KIND store.new (references Self.Mark.KIND) (or_absent (λ h. handle (root h)) found)) }
+        ensures same { IsSameStore store.old store.new }
+        ensures room { KeepsRoom MANNER store.old store.new }
+        ensures reserved { WantsNoMemory MANNER store.old result };
+}
+
+impl<T: WasmRef> WasmHandle for Rooted<T> {
+    ghost use Rattle.gc_wasm_types.specs.Values.{scoped};
+
+    ghost root = { λ h. h.index };
+
+    ghost MANNER = { scoped };
+
+    type Mark = T;
+
+    fn root(&self) -> GcRootIndex {
+        self.root_index()
+    }
+
+    fn load_handle<H: GcHeap, D: Drop>(
+        store: &mut Store<H, D>,
+        from: &ValRaw,
+    ) -> Result<Option<Rooted<T>>, RootFault> {
+        load_scoped(store, from)
+    }
+}
+
+impl<T: WasmRef> WasmHandle for OwnedRooted<T> {
+    ghost use Rattle.gc_wasm_types.specs.Values.{owned};
+
+    ghost root = { λ h. h.index };
+
+    ghost MANNER = { owned };
+
+    type Mark = T;
+
+    fn root(&self) -> GcRootIndex {
+        self.root_index()
+    }
+
+    fn load_handle<H: GcHeap, D: Drop>(
+        store: &mut Store<H, D>,
+        from: &ValRaw,
+    ) -> Result<Option<OwnedRooted<T>>, RootFault> {
+        load_owned(store, from)
+    }
+}
 
 /// The type of references of a mark.
 fn reference_type<T: WasmRef>(nullable: bool) -> ValType
@@ -23,20 +109,20 @@ fn reference_type<T: WasmRef>(nullable: bool) -> ValType
     })
 }
 
-impl<T: WasmRef> WasmTy for Rooted<T> {
+impl<R: WasmHandle> WasmTy for R {
     ghost use Rattle.std.specs.Prelude.{false};
-    ghost use Rattle.gc_wasm_types.specs.Values.{handle_form, handle, scoped};
+    ghost use Rattle.gc_wasm_types.specs.Values.{handle_form, handle};
 
-    ghost value = { λ h. handle h.index };
+    ghost value = { λ h. handle (R.root h) };
 
-    ghost FORM = { handle_form false T.HEAP T.KIND T.CLASS scoped };
+    ghost FORM = { handle_form false R.Mark.HEAP R.Mark.KIND R.Mark.CLASS R.MANNER };
 
     fn valtype() -> ValType {
-        reference_type::<T>(false)
+        reference_type::<R::Mark>(false)
     }
 
     fn compatible_with_store<H: GcHeap, D: Drop>(&self, store: &Store<H, D>) -> bool {
-        is_of_store(store, self.root_index())
+        is_of_store(store, self.root())
     }
 
     fn is_vmgcref_and_points_to_object(&self) -> bool {
@@ -49,7 +135,7 @@ impl<T: WasmRef> WasmTy for Rooted<T> {
         nullable: bool,
         actual: &HeapType,
     ) -> Result<(), AccessFault> {
-        check_reference(store, T::CLASS, Some(self.root_index()), nullable, actual)
+        check_reference(store, R::Mark::CLASS, Some(self.root()), nullable, actual)
     }
 
     fn store<H: GcHeap, D: Drop>(
@@ -57,14 +143,11 @@ impl<T: WasmRef> WasmTy for Rooted<T> {
         store: &mut Store<H, D>,
         into: &mut ValRaw,
     ) -> Result<(), RootFault> {
-        store_root(store, self.root_index(), into)
+        store_root(store, self.root(), into)
     }
 
-    fn load<H: GcHeap, D: Drop>(
-        store: &mut Store<H, D>,
-        from: &ValRaw,
-    ) -> Result<Rooted<T>, RootFault> {
-        match load_scoped(store, from) {
+    fn load<H: GcHeap, D: Drop>(store: &mut Store<H, D>, from: &ValRaw) -> Result<R, RootFault> {
+        match R::load_handle(store, from) {
             Ok(Some(handle)) => Ok(handle),
             // The word isn't 0.
             Ok(None) => unreachable!(),
@@ -73,21 +156,21 @@ impl<T: WasmRef> WasmTy for Rooted<T> {
     }
 }
 
-impl<T: WasmRef> WasmTy for Option<Rooted<T>> {
+impl<R: WasmHandle> WasmTy for Option<R> {
     ghost use Rattle.std.specs.Prelude.{true};
-    ghost use Rattle.gc_wasm_types.specs.Values.{handle_form, handle, or_absent, scoped};
+    ghost use Rattle.gc_wasm_types.specs.Values.{handle_form, handle, or_absent};
 
-    ghost value = { or_absent (λ h. handle h.index) };
+    ghost value = { or_absent (λ h. handle (R.root h)) };
 
-    ghost FORM = { handle_form true T.HEAP T.KIND T.CLASS scoped };
+    ghost FORM = { handle_form true R.Mark.HEAP R.Mark.KIND R.Mark.CLASS R.MANNER };
 
     fn valtype() -> ValType {
-        reference_type::<T>(true)
+        reference_type::<R::Mark>(true)
     }
 
     fn compatible_with_store<H: GcHeap, D: Drop>(&self, store: &Store<H, D>) -> bool {
         match self {
-            Some(handle) => is_of_store(store, handle.root_index()),
+            Some(handle) => is_of_store(store, handle.root()),
             None => true,
         }
     }
@@ -104,9 +187,9 @@ impl<T: WasmRef> WasmTy for Option<Rooted<T>> {
     ) -> Result<(), AccessFault> {
         match self {
             Some(handle) => {
-                check_reference(store, T::CLASS, Some(handle.root_index()), nullable, actual)
+                check_reference(store, R::Mark::CLASS, Some(handle.root()), nullable, actual)
             }
-            None => check_reference(store, T::CLASS, None, nullable, actual),
+            None => check_reference(store, R::Mark::CLASS, None, nullable, actual),
         }
     }
 
@@ -116,7 +199,7 @@ impl<T: WasmRef> WasmTy for Option<Rooted<T>> {
         into: &mut ValRaw,
     ) -> Result<(), RootFault> {
         match self {
-            Some(handle) => store_root(store, handle.root_index(), into),
+            Some(handle) => store_root(store, handle.root(), into),
             None => {
                 write_word(into, 0);
                 Ok(())
@@ -127,116 +210,7 @@ impl<T: WasmRef> WasmTy for Option<Rooted<T>> {
     fn load<H: GcHeap, D: Drop>(
         store: &mut Store<H, D>,
         from: &ValRaw,
-    ) -> Result<Option<Rooted<T>>, RootFault> {
-        load_scoped(store, from)
-    }
-}
-
-impl<T: WasmRef> WasmTy for OwnedRooted<T> {
-    ghost use Rattle.std.specs.Prelude.{false};
-    ghost use Rattle.gc_wasm_types.specs.Values.{handle_form, handle, owned};
-
-    ghost value = { λ h. handle h.index };
-
-    ghost FORM = { handle_form false T.HEAP T.KIND T.CLASS owned };
-
-    fn valtype() -> ValType {
-        reference_type::<T>(false)
-    }
-
-    fn compatible_with_store<H: GcHeap, D: Drop>(&self, store: &Store<H, D>) -> bool {
-        is_of_store(store, self.root_index())
-    }
-
-    fn is_vmgcref_and_points_to_object(&self) -> bool {
-        true
-    }
-
-    fn dynamic_concrete_type_check<H: GcHeap, D: Drop>(
-        &self,
-        store: &Store<H, D>,
-        nullable: bool,
-        actual: &HeapType,
-    ) -> Result<(), AccessFault> {
-        check_reference(store, T::CLASS, Some(self.root_index()), nullable, actual)
-    }
-
-    fn store<H: GcHeap, D: Drop>(
-        &self,
-        store: &mut Store<H, D>,
-        into: &mut ValRaw,
-    ) -> Result<(), RootFault> {
-        store_root(store, self.root_index(), into)
-    }
-
-    fn load<H: GcHeap, D: Drop>(
-        store: &mut Store<H, D>,
-        from: &ValRaw,
-    ) -> Result<OwnedRooted<T>, RootFault> {
-        match load_owned(store, from) {
-            Ok(Some(handle)) => Ok(handle),
-            // The word isn't 0.
-            Ok(None) => unreachable!(),
-            Err(fault) => Err(fault),
-        }
-    }
-}
-
-impl<T: WasmRef> WasmTy for Option<OwnedRooted<T>> {
-    ghost use Rattle.std.specs.Prelude.{true};
-    ghost use Rattle.gc_wasm_types.specs.Values.{handle_form, handle, or_absent, owned};
-
-    ghost value = { or_absent (λ h. handle h.index) };
-
-    ghost FORM = { handle_form true T.HEAP T.KIND T.CLASS owned };
-
-    fn valtype() -> ValType {
-        reference_type::<T>(true)
-    }
-
-    fn compatible_with_store<H: GcHeap, D: Drop>(&self, store: &Store<H, D>) -> bool {
-        match self {
-            Some(handle) => is_of_store(store, handle.root_index()),
-            None => true,
-        }
-    }
-
-    fn is_vmgcref_and_points_to_object(&self) -> bool {
-        self.is_some()
-    }
-
-    fn dynamic_concrete_type_check<H: GcHeap, D: Drop>(
-        &self,
-        store: &Store<H, D>,
-        nullable: bool,
-        actual: &HeapType,
-    ) -> Result<(), AccessFault> {
-        match self {
-            Some(handle) => {
-                check_reference(store, T::CLASS, Some(handle.root_index()), nullable, actual)
-            }
-            None => check_reference(store, T::CLASS, None, nullable, actual),
-        }
-    }
-
-    fn store<H: GcHeap, D: Drop>(
-        &self,
-        store: &mut Store<H, D>,
-        into: &mut ValRaw,
-    ) -> Result<(), RootFault> {
-        match self {
-            Some(handle) => store_root(store, handle.root_index(), into),
-            None => {
-                write_word(into, 0);
-                Ok(())
-            }
-        }
-    }
-
-    fn load<H: GcHeap, D: Drop>(
-        store: &mut Store<H, D>,
-        from: &ValRaw,
-    ) -> Result<Option<OwnedRooted<T>>, RootFault> {
-        load_owned(store, from)
+    ) -> Result<Option<R>, RootFault> {
+        R::load_handle(store, from)
     }
 }

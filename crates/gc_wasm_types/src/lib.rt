@@ -11,5 +11,6 @@ mod numbers;
 mod wasm_ty;
 mod words;
 
+pub use handles::WasmHandle;
 pub use marks::WasmRef;
 pub use wasm_ty::WasmTy;

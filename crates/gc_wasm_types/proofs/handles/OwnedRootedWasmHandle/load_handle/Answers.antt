@@ -1,11 +1,5 @@
-use Rattle.std.proofs.Common.{true}
-use Rattle.gc_wasm_types.specs.Values.{raw_word}
 use Rattle.gc_wasm_types.proofs.Loaded.{owned_loads, owned_kinds}
-use Rattle.gc_wasm_types.proofs.Loading.{can_take}
-use Rattle.gc_wasm_types.proofs.handles.OptionOwnedRootedWasmTy.load.Goals as goal
-
-pub load_owned-requires : goal.load_owned-requires
-load_owned-requires g c = can_take g.row.D.Denot g.H.GcHeap.KIND c.args.store.now g.T.GcRef.KIND true (raw_word c.args.from.now) c.requires
+use Rattle.gc_wasm_types.proofs.handles.OwnedRootedWasmHandle.load_handle.Goals as goal
 
 pub returns-clause-loads : goal.returns-clause-loads
 returns-clause-loads g c t place a r there is = owned_loads g.H.GcHeap.KIND t place a r c.load_owned.new.store c.load_owned.result (c.load_owned.ensures.owns t place a r there is)
