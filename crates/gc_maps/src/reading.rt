@@ -40,6 +40,7 @@ fn int_in(value: &RawValue) -> i32
 }
 
 /// The 64-bit integer at that index of an object.
+#[inline(always)]
 pub(crate) fn read_long<H: GcHeap, D: Drop>(
     store: &mut Store<H, D>,
     object: GcRootIndex,
@@ -57,6 +58,7 @@ pub(crate) fn read_long<H: GcHeap, D: Drop>(
 }
 
 /// The 32-bit integer at that index of an object.
+#[inline(always)]
 pub(crate) fn read_int<H: GcHeap, D: Drop>(
     store: &mut Store<H, D>,
     object: GcRootIndex,
@@ -74,6 +76,7 @@ pub(crate) fn read_int<H: GcHeap, D: Drop>(
 }
 
 /// A root of what the link at that index of an object names; none where it is null.
+#[inline(always)]
 pub(crate) fn read_link<H: GcHeap, D: Drop>(
     store: &mut Store<H, D>,
     object: GcRootIndex,

@@ -38,6 +38,7 @@ fn description_of(request: &Place) -> Description
 }
 
 /// The bytes of an object of a declared type; None exactly where no heap of the kind can hold it.
+#[inline(always)]
 fn object_size<H: GcHeap>(types: &Types, request: &Place) -> Option<u32>
     requires { (size : ℕ) × IsSizeOf H.KIND types.now.declarations request.now size }
     ensures { (size : ℕ) → IsSizeOf H.KIND types.now.declarations request.now size → TellsSize H.KIND size result }

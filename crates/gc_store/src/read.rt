@@ -90,6 +90,7 @@ fn describe_held<H: GcHeap>(heap: &H, gc_ref: &VMGcRef) -> RootedObject
 
 impl<H: GcHeap, D: Drop> Store<H, D> {
     /// The word that the handle's root has.
+    #[inline(always)]
     pub(crate) fn word_of(&self, handle: GcRootIndex) -> Result<u32, RootFault>
         ensures { result ≡ word_of self.now handle }
     {
@@ -169,6 +170,7 @@ impl<H: GcHeap, D: Drop> Store<H, D> {
     }
 
     /// Pushes a scoped root for a copy of a word of the store.
+    #[inline(always)]
     pub(crate) fn push_root(&mut self, word: u32) -> Result<GcRootIndex, RootFault>
         requires { IsRootWord D H.KIND self.old word }
         ensures pushes { (t : Table D) (place : Placing) (a : Account) (r : Reference) → Holds H.KIND self.old t place → IsAccount H.KIND self.old place a
@@ -206,6 +208,7 @@ impl<H: GcHeap, D: Drop> Store<H, D> {
     }
 
     /// What lies at that index of the object that the handle names.
+    #[inline(always)]
     fn found_at(&self, handle: GcRootIndex, index: u32) -> Found
         requires { CanRead D H.KIND self.now handle index }
         ensures { FindsValue D H.KIND self.now handle index result }
@@ -222,6 +225,7 @@ impl<H: GcHeap, D: Drop> Store<H, D> {
     }
 
     /// A reference by its word. One that isn't null gets a scoped root: `RootsFull` where no further one may be made.
+    #[inline(always)]
     pub(crate) fn push_reference(&mut self, word: u32) -> Result<Option<GcRootIndex>, RootFault>
         requires { IsReferenceWord D H.KIND self.old word }
         ensures reads { ReadsReference H.KIND self.old word result self.new }
@@ -244,6 +248,7 @@ impl<H: GcHeap, D: Drop> Store<H, D> {
 
     /// The value at that index of the object that the handle names: a field of a struct or an exception, or an element
     /// of an array. A reference that isn't null gets a scoped root: `RootsFull` where no further one may be made.
+    #[inline(always)]
     pub fn read_value(&mut self, handle: GcRootIndex, index: u32) -> Result<RawValue, RootFault>
         requires { CanRead D H.KIND self.old handle index }
         ensures reads { (t : Table D) (a : Account) (value : Value) → HoldsAccount H.KIND self.old t a → HasValue self.old t handle index value

@@ -18,6 +18,7 @@ pub(crate) struct Slot {
 }
 
 /// The slot of a field of a struct or an exception of a declared type.
+#[inline(always)]
 fn field_slot(types: &Types, layouts: Layouts, ty: VMSharedTypeIndex, index: u32) -> Slot
     requires has { HasSlot layouts types.now.declarations ty index }
     requires no_array { elem_at types.now.declarations ty ≡ None }
@@ -51,6 +52,7 @@ fn element_slot(
 }
 
 /// The slot of the value at that index of an object of a declared type.
+#[inline(always)]
 pub(crate) fn slot_at(types: &Types, layouts: Layouts, ty: VMSharedTypeIndex, index: u32) -> Slot
     requires { HasSlot layouts types.now.declarations ty index }
     ensures { FindsSlot layouts types.now.declarations ty index result }
@@ -62,6 +64,7 @@ pub(crate) fn slot_at(types: &Types, layouts: Layouts, ty: VMSharedTypeIndex, in
 }
 
 /// The slot of the value at that index of a held object.
+#[inline(always)]
 pub(crate) fn slot_in<H: GcHeap>(heap: &H, types: &Types, gc_ref: &VMGcRef, index: u32) -> Slot
     requires sound { H.sound heap.now }
     requires has { IsHeldWithSlot H.KIND types.now.declarations (H.seen heap.now) gc_ref.now index }
