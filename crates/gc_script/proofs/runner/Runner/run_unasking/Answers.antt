@@ -1,5 +1,14 @@
-use Rattle.std.proofs.Common.{refl}
+use Rattle.std.proofs.Common.{◌≡◌, ℕ, refl}
+use Rattle.std.specs.Prelude.{Result, OnErr}
+use Rattle.gc_types.specs.declared.kind.Layouts.{Layouts}
+use Rattle.gc_model.specs.Stores.{StoreView}
+use Rattle.gc_commands.specs.declared.command.Command.{Command}
 use Rattle.gc_commands.specs.declared.command.Command.TheVariants as command
+use Rattle.gc_commands.specs.declared.reply.Reply.{Reply}
+use Rattle.gc_script.specs.declared.runner.RunError.{RunError}
+use Rattle.gc_script.specs.Slots.{RunnerView}
+use Rattle.gc_script.specs.State.{State, HoldsState}
+use Rattle.gc_script.specs.Wants.{MayWant}
 use Rattle.gc_script.specs.Given.{is_array, has_fields}
 use Rattle.gc_script.specs.Shapes.{shape}
 use Rattle.gc_script.specs.Steps.{tests, reading_tests}
@@ -8,6 +17,11 @@ use Rattle.gc_script.proofs.WantLemmas.{may_as, small_may}
 use Rattle.gc_script.proofs.GoesLemmas.{goes_as}
 use Rattle.gc_script.proofs.TestLemmas.{goes_by}
 use Rattle.gc_script.proofs.runner.Runner.run_unasking.Goals as goal
+
+-- why a command that is known fails is why it fails as the command that was given
+may_by : (layouts : Layouts) (store : StoreView ℕ) (runner : RunnerView) (r : Result Reply RunError) (c known : Command) → c ≡ known → OnErr r ((s : State) → HoldsState layouts store runner s → MayWant layouts s known)
+    → OnErr r ((s : State) → HoldsState layouts store runner s → MayWant layouts s c)
+may_by layouts store runner r c known is = on_err r (λ may s holds. may_as layouts s c known is (may s holds))
 
 pub returns-in-Field-clause-goes : goal.returns-in-Field-clause-goes
 returns-in-Field-clause-goes g c s holds =
@@ -48,28 +62,22 @@ returns-in-I31-clause-cause g c =
     on_any_err c.make_i31.result (λ s holds. may_as g.H.GcHeap.KIND s c.args.command.now _ c.in-I31.is (small_may g.H.GcHeap.KIND s c.in-I31.d c.in-I31.n))
 
 pub returns-in-ReadBytes-clause-cause : goal.returns-in-ReadBytes-clause-cause
-returns-in-ReadBytes-clause-cause g c =
-    on_err c.read_bytes.result (λ may s holds. may_as g.H.GcHeap.KIND s c.args.command.now _ c.in-ReadBytes.is (may s holds)) c.read_bytes.ensures.cause
+returns-in-ReadBytes-clause-cause g c = may_by _ _ _ c.read_bytes.result _ _ c.in-ReadBytes.is c.read_bytes.ensures.cause
 
 pub returns-in-Load-clause-cause : goal.returns-in-Load-clause-cause
-returns-in-Load-clause-cause g c =
-    on_err c.load_slot.result (λ may s holds. may_as g.H.GcHeap.KIND s c.args.command.now _ c.in-Load.is (may s holds)) c.load_slot.ensures.cause
+returns-in-Load-clause-cause g c = may_by _ _ _ c.load_slot.result _ _ c.in-Load.is c.load_slot.ensures.cause
 
 pub returns-in-GetGlobal-clause-cause : goal.returns-in-GetGlobal-clause-cause
-returns-in-GetGlobal-clause-cause g c =
-    on_err c.get_global.result (λ may s holds. may_as g.H.GcHeap.KIND s c.args.command.now _ c.in-GetGlobal.is (may s holds)) c.get_global.ensures.cause
+returns-in-GetGlobal-clause-cause g c = may_by _ _ _ c.get_global.result _ _ c.in-GetGlobal.is c.get_global.ensures.cause
 
 pub returns-in-Own-clause-cause : goal.returns-in-Own-clause-cause
-returns-in-Own-clause-cause g c =
-    on_err c.own.result (λ may s holds. may_as g.H.GcHeap.KIND s c.args.command.now _ c.in-Own.is (may s holds)) c.own.ensures.cause
+returns-in-Own-clause-cause g c = may_by _ _ _ c.own.result _ _ c.in-Own.is c.own.ensures.cause
 
 pub returns-in-Root-clause-cause : goal.returns-in-Root-clause-cause
-returns-in-Root-clause-cause g c =
-    on_err c.root.result (λ may s holds. may_as g.H.GcHeap.KIND s c.args.command.now _ c.in-Root.is (may s holds)) c.root.ensures.cause
+returns-in-Root-clause-cause g c = may_by _ _ _ c.root.result _ _ c.in-Root.is c.root.ensures.cause
 
 pub returns-in-Take-clause-cause : goal.returns-in-Take-clause-cause
-returns-in-Take-clause-cause g c =
-    on_err c.take.result (λ may s holds. may_as g.H.GcHeap.KIND s c.args.command.now _ c.in-Take.is (may s holds)) c.take.ensures.cause
+returns-in-Take-clause-cause g c = may_by _ _ _ c.take.result _ _ c.in-Take.is c.take.ensures.cause
 
 pub returns-in-Field-clause-cause : goal.returns-in-Field-clause-cause
 returns-in-Field-clause-cause g c =
