@@ -56,6 +56,8 @@ impl LineFault {
 }
 
 /// Writes a reply with its line feed. The text is a buffer that is used again.
+// In place: where the reply is known, what is left of it is the write of a constant.
+#[inline(always)]
 fn write_reply<K: Sink>(text: &mut String, sink: &mut K, reply: &Reply) -> Result<(), LineFault>
     ensures replied { OnOk result (Appends (K.tells sink.old).held (K.tells sink.new).held (reply_line reply.now)) }
     ensures part { OnErr result (TookPart (K.tells sink.old).held (K.tells sink.new).held (reply_line reply.now)) }
@@ -216,33 +218,7 @@ pub(crate) fn run_piece<H: GcHeap, L: ResourceLimiter, K: Sink>(
     }
 }
 
-/// Runs the last line of an input, which its end ends, where that isn't empty.
-fn run_rest<H: GcHeap, L: ResourceLimiter, K: Sink>(
-    alloc: Global,
-    runner: &mut Runner,
-    store: &mut Store<H, u64>,
-    limiter: &mut L,
-    cutter: &LineCutter,
-    sink: &mut K,
-) -> Result<(), LineFault>
-    ensures ran { OnOk result ((bytes : List ℕ) (s : State) → IsUnfinished cutter.now bytes → HoldsState H.KIND store.old runner.old s
-        → RanLines H.KIND store.old.alloc_counter (L.limits limiter.old) (L.limits limiter.new) s bytes store.old store.new runner.new
-        (K.tells sink.old).held (K.tells sink.new).held) }
-    ensures stopped { OnErr result ((bytes : List ℕ) (s : State) → IsUnfinished cutter.now bytes → HoldsState H.KIND store.old runner.old s
-        → RanSome H.KIND store.old.alloc_counter (L.limits limiter.old) s bytes store.old store.new runner.new
-        (K.tells sink.old).held (K.tells sink.new).held) }
-    ensures failed { IsErrOf result LineFault.Sink → Rose (K.tells sink.old).faults (K.tells sink.new).faults }
-    ensures faults { (K.tells sink.old).faults ≤ (K.tells sink.new).faults }
-    ensures same { IsSameStore store.old store.new }
-{
-    if cutter.held() == 0 {
-        return Ok(());
-    }
-    let mut text = String::new(alloc);
-    run_kept(alloc, runner, store, limiter, cutter, &mut text, sink)
-}
-
-/// Runs the last line of an input, and flushes.
+/// Runs the last line of an input, which its end ends, where that isn't empty, and flushes.
 pub(crate) fn run_last<H: GcHeap, L: ResourceLimiter, K: Sink>(
     alloc: Global,
     runner: &mut Runner,
@@ -262,10 +238,12 @@ pub(crate) fn run_last<H: GcHeap, L: ResourceLimiter, K: Sink>(
     ensures faults { (K.tells sink.old).faults ≤ (K.tells sink.new).faults }
     ensures same { IsSameStore store.old store.new }
 {
-    match run_rest(alloc, runner, store, limiter, cutter, sink) {
-        Ok(()) => flush(sink),
-        Err(fault) => Err(fault),
+    if cutter.held() == 0 {
+        return flush(sink);
     }
+    let mut text = String::new(alloc);
+    run_kept(alloc, runner, store, limiter, cutter, &mut text, sink)?;
+    flush(sink)
 }
 
 /// Flushes what was written.
