@@ -1,5 +1,5 @@
 -- Freed places join the runs that touch them, by how many runs stand below them.
-use Rattle.std.proofs.Common.{ℕ, zero, suc, ◌≡◌, ◌≤◌, ◌<◌, ◌-◌, ◌^◌, get_or, set, length, List, [], ◌∷◌, arith, refl, ap, sym, ◌∙◌, true, false, inl, inr, ◌⊎◌, Option, Some, None, Bool, cond, not, subst}
+use Rattle.std.proofs.Common.{ℕ, zero, suc, ◌≡◌, ◌≤◌, ◌<◌, ◌+◌, ◌-◌, ◌^◌, get_or, set, length, List, [], ◌∷◌, arith, refl, ap, sym, ◌∙◌, true, false, inl, inr, ◌⊎◌, Option, Some, None, Bool, cond, not, subst}
 use Rattle.std.proofs.lemmas.Bool.{lt-ltb, le-ltb, eq-eqb, ne_eqb, cases_lt, cases_eq}
 use Rattle.std.specs.List.{remove, find}
 use Rattle.gc_free.specs.declared.run.Run.{Run}
@@ -8,6 +8,7 @@ use Rattle.gc_free.specs.Orders.{count_below, length_key}
 use Rattle.gc_free.specs.Merged.{join, join_if_any, joined, apart_from, merged}
 use Rattle.gc_free.proofs.ByLength.{place_of, In, In-place}
 use Rattle.gc_free.proofs.Shortest.{In-get_or}
+use Rattle.gc_free.proofs.InsertBy.{remove_at_count}
 use Rattle.gc_free.proofs.Spread.{PassesNone, PassesAt, begins_none, begins_found, ends_none, ends_none_first, ends_found}
 use Rattle.gc_free.proofs.Taking.{spread-without}
 use Rattle.gc_free.proofs.TwoOrdersKept.{In-insert_run}
@@ -313,24 +314,69 @@ joins_both freed b h runs n f some is e l is' e' =
       grows = λ d. rw (get_or_default left (n - 1) d b (omega arith), is'') (omega arith);
     }
 
--- a run of a higher key keeps its rank where the next one's is no lower
-pub kept_rank : (key : Run → ℕ) (k n : ℕ) (j : Run) (xs : List Run) → n ≡ count_below key k xs → n < length xs → k ≤ key j
-    → (suc n < length xs → (d : Run) → key j ≤ key (get_or xs (suc n) d)) → set xs n j ≡ insert_by key j (remove_by key k xs)
-kept_rank key k n j [] is l low next = absurd (omega arith)
-kept_rank key k zero j (x ∷ []) is l low next =
+-- all runs before an index have keys below one
+abbrev pub AllBelow : (Run → ℕ) → ℕ → ℕ → List Run → Type 0
+AllBelow key k zero xs = Unit {0}
+AllBelow key k (suc n) [] = ⊥
+AllBelow key k (suc n) (x ∷ xs) = (key x < k) × AllBelow key k n xs
+
+count_all_below : (key : Run → ℕ) (k j n : ℕ) (xs : List Run) → n ≡ count_below key k xs → k ≤ j → AllBelow key j n xs
+count_all_below key k j zero xs is l = tt
+count_all_below key k j (suc n) [] is l = absurd (omega arith)
+count_all_below key k j (suc n) (x ∷ xs) is l =
     elim (cases_lt (key x) k) [
-      | inl lt ↦ let is' : zero ≡ suc (count_below key k []) = rw (lt-ltb (key x) k lt) at is in absurd (omega arith)
-      | inr le ↦ rw (le-ltb (key x) k le) refl
-    ]
-kept_rank key k zero j (x ∷ y ∷ ys) is l low next =
-    elim (cases_lt (key x) k) [
-      | inl lt ↦ let is' : zero ≡ suc (count_below key k (y ∷ ys)) = rw (lt-ltb (key x) k lt) at is in absurd (omega arith)
-      | inr le ↦ let above : key j ≤ key y = next (omega arith) j in rw (le-ltb (key x) k le, le-ltb (key y) (key j) above) refl
-    ]
-kept_rank key k (suc n) j (x ∷ xs) is l low next =
-    elim (cases_lt (key x) k) [
-      | inl lt ↦
-          let is' : suc n ≡ suc (count_below key k xs) = rw (lt-ltb (key x) k lt) at is in
-          rw (lt-ltb (key x) k lt, lt-ltb (key x) (key j) (omega arith)) (ap (λ l. x ∷ l) (kept_rank key k n j xs (omega arith) (omega arith) low (λ m d. next (omega arith) d)))
+      | inl lt ↦ let is' : suc n ≡ suc (count_below key k xs) = rw (lt-ltb (key x) k lt) at is in (omega arith, count_all_below key k j n xs (omega arith) l)
       | inr le ↦ let is' : suc n ≡ zero = rw (le-ltb (key x) k le) at is in absurd (omega arith)
     ]
+
+-- the runs behind a gap move one place forward: those before the gap have keys below one
+pub record Shifts (key : Run → ℕ) (k j : ℕ) (before now : List Run) (n : ℕ) : Type 0 where
+  pub within : n < length now
+  pub below : AllBelow key j n now
+  pub rest : remove now n ≡ remove_by key k before
+
+pub shifts_start : (key : Run → ℕ) (k j n : ℕ) (xs : List Run) → n ≡ count_below key k xs → count_below key k xs < length xs → k ≤ j → Shifts key k j xs xs n
+shifts_start key k j n xs is l low =
+    record { within = omega arith; below = count_all_below key k j n xs is low; rest = ap (remove xs) is ∙ remove_at_count key k xs }
+
+shift_below : (key : Run → ℕ) (j n : ℕ) (r : Run) (xs : List Run) → n < length xs → AllBelow key j n xs → key r < j → AllBelow key j (suc n) (set xs n r)
+shift_below key j n r [] l all low = absurd (omega arith)
+shift_below key j zero r (x ∷ xs) l all low = (low, tt)
+shift_below key j (suc n) r (x ∷ xs) l all low = (all.0, shift_below key j n r xs (omega arith) all.1 low)
+
+shift_rest : (n : ℕ) (d : Run) (xs : List Run) → suc n < length xs → remove (set xs n (get_or xs (suc n) d)) (suc n) ≡ remove xs n
+shift_rest n d [] l = absurd (omega arith)
+shift_rest zero d (x ∷ []) l = absurd (omega arith)
+shift_rest zero d (x ∷ y ∷ ys) l = refl
+shift_rest (suc n) d (x ∷ xs) l = ap (λ l. x ∷ l) (shift_rest n d xs (omega arith))
+
+length_set : (n : ℕ) (r : Run) (xs : List Run) → length (set xs n r) ≡ length xs
+length_set n r [] = refl
+length_set zero r (x ∷ xs) = refl
+length_set (suc n) r (x ∷ xs) = ap (λ k. suc k) (length_set n r xs)
+
+pub shifts_on : (key : Run → ℕ) (k j n : ℕ) (r : Run) (xs now : List Run) → Shifts key k j xs now n → n + 1 < length now → r ≡ get_or now (n + 1) r → key r < j
+    → Shifts key k j xs (set now n r) (n + 1)
+shifts_on key k j n r xs now s l is low =
+    let same : n + 1 ≡ suc n = omega arith in
+    let is' : r ≡ get_or now (suc n) r = subst (λ m. r ≡ get_or now m r) same is in
+    let long = length_set n r now in
+    record {
+      within = omega arith;
+      below = rw same (shift_below key j n r now s.within s.below low);
+      rest = rw same (subst (λ z. remove (set now n z) (suc n) ≡ remove now n) (sym is') (shift_rest n r now (omega arith)) ∙ s.rest);
+    }
+
+filled : (key : Run → ℕ) (n : ℕ) (r : Run) (xs : List Run) → n < length xs → AllBelow key (key r) n xs → (suc n < length xs → (d : Run) → key r ≤ key (get_or xs (suc n) d))
+    → set xs n r ≡ insert_by key r (remove xs n)
+filled key n r [] l all next = absurd (omega arith)
+filled key zero r (x ∷ []) l all next = refl
+filled key zero r (x ∷ y ∷ ys) l all next = let above : key r ≤ key y = next (omega arith) r in rw (le-ltb (key y) (key r) above) refl
+filled key (suc n) r (x ∷ xs) l all next =
+    rw (lt-ltb (key x) (key r) all.0) (ap (λ l. x ∷ l) (filled key n r xs (omega arith) all.1 (λ m d. next (omega arith) d)))
+
+pub shifts_end : (key : Run → ℕ) (k n : ℕ) (r : Run) (xs now : List Run) → Shifts key k (key r) xs now n → (n + 1 < length now → (d : Run) → key r ≤ key (get_or now (n + 1) d))
+    → set now n r ≡ insert_by key r (remove_by key k xs)
+shifts_end key k n r xs now s next =
+    let same : n + 1 ≡ suc n = omega arith in
+    filled key n r now s.within s.below (λ l d. subst (λ m. key r ≤ key (get_or now m d)) same (next (omega arith) d)) ∙ ap (insert_by key r) s.rest

@@ -1,5 +1,5 @@
 //! Freed places go in among the runs, in both orders.
-ghost use Rattle.std.specs.Prelude.{◌≡◌, ◌≢◌, ◌+◌, ◌-◌, ◌^◌, ◌<◌, ◌≤◌, length, IfSome, IsNone, IsTrue, vec_len, vec_capacity, slice_index_or, slice_set};
+ghost use Rattle.std.specs.Prelude.{◌≡◌, ◌≢◌, ◌+◌, ◌-◌, ◌^◌, ◌<◌, ◌≤◌, length, IfSome, IsNone, true, false, vec_len, vec_capacity, slice_index_or, slice_set};
 ghost use Rattle.std.specs.Vec.{vec_ptr};
 ghost use Rattle.std.specs.List.Sorted.{IsNonDecreasingBy};
 ghost use Rattle.gc_free.specs.declared.run.Run.{Run};
@@ -48,34 +48,34 @@ fn run_before(runs: &[Run], at: usize, place: u32) -> Option<Run>
     Some(run)
 }
 
-/// Whether a run of a key that is no lower can stand at an index in place of the run there.
-fn keeps_rank<L: Ledger>(runs: &[Run], at: usize, key: Key, steps: &mut Steps<L>) -> bool
+/// Whether the run behind an index stands before a key.
+fn is_next_before<L: Ledger>(runs: &[Run], at: usize, key: Key, steps: &mut Steps<L>) -> bool
     requires { at < length runs.now }
-    ensures { IsTrue result → at + 1 < length runs.now → (d : Run) → key ≤ length_key (slice_index_or runs.now (at + 1) d) }
+    ensures next { result ≡ true → (at + 1 < length runs.now) × ((d : Run) → length_key (slice_index_or runs.now (at + 1) d) < key) }
+    ensures none { result ≡ false → at + 1 < length runs.now → (d : Run) → key ≤ length_key (slice_index_or runs.now (at + 1) d) }
 {
     if at + 1 == runs.len() {
-        return true;
+        return false;
     }
-    !Key::new(Order::ByLength, runs[at + 1]).is_before(key, steps)
+    Key::new(Order::ByLength, runs[at + 1]).is_before(key, steps)
 }
 
-/// A run grows in the order of lengths. Where its rank stays nothing moves.
+/// A run grows in the order of lengths: those that it outgrows move one place forward.
 fn grow_in_order<L: Ledger>(runs: &mut Vec<Run>, run: Run, whole: Run, steps: &mut Steps<L>)
     requires sorted { IsNonDecreasingBy length_key runs.old.items }
-    requires rest { IsNonDecreasingBy length_key (remove_by length_key (length_key run) runs.old.items) }
     requires present { count_below length_key (length_key run) runs.old.items < length runs.old.items }
     requires grows { length_key run ≤ length_key whole }
     ensures items { runs.new.items ≡ insert_by length_key whole (remove_by length_key (length_key run) runs.old.items) }
     ensures capacity { vec_capacity runs.new ≡ vec_capacity runs.old }
     ensures in_place { vec_ptr runs.new ≡ vec_ptr runs.old }
 {
-    let at = count_before(runs, Order::ByLength, Key::new(Order::ByLength, run), steps);
-    if keeps_rank(runs, at, Key::new(Order::ByLength, whole), steps) {
-        runs[at] = whole;
-    } else {
-        let _ = runs.remove(at);
-        insert_in_order(runs, Order::ByLength, whole, steps);
+    let mut at = count_before(runs, Order::ByLength, Key::new(Order::ByLength, run), steps);
+    let key = Key::new(Order::ByLength, whole);
+    while is_next_before(runs, at, key, steps) {
+        runs[at] = runs[at + 1];
+        at += 1;
     }
+    runs[at] = whole;
 }
 
 /// A run takes in places at an end of it.

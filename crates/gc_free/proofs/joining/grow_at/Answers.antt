@@ -11,15 +11,6 @@ use Rattle.gc_free.proofs.joining.grow_at.Goals as goal
 pub grow_in_order-requires-clause-sorted : goal.grow_in_order-requires-clause-sorted
 grow_in_order-requires-clause-sorted g c = sorted_by_length c.args.by_place.now.items c.args.by_length.now.items c.requires.orders
 
-pub grow_in_order-requires-clause-rest : goal.grow_in_order-requires-clause-rest
-grow_in_order-requires-clause-rest g c =
-    let runs = c.args.by_place.now.items in
-    let ordered = c.args.by_length.now.items in
-    let run = c.index-run.result.now in
-    let within : c.args.at < length runs = omega arith in
-    let among : In run runs = subst (λ z. In z runs) (sym c.index-run.ensures) (In-get_or runs c.args.at run within) in
-    sorted_by_length (remove_by place_of run.place runs) (remove_by length_key (length_key run) ordered) (two_orders-remove runs ordered run c.requires.orders among)
-
 pub grow_in_order-requires-clause-present : goal.grow_in_order-requires-clause-present
 grow_in_order-requires-clause-present g c =
     let within : c.args.at < length c.args.by_place.now.items = omega arith in
