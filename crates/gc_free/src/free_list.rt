@@ -133,7 +133,7 @@ impl FreeList {
 
     /// The capacity rises by so many bytes, and stops at the greatest usize. New places merge with the
     /// run that they touch, which is current then if it was, or if it is a current run used up whole.
-    /// Takes no memory. Up to four searches, and entries of the runs move up (not proved).
+    /// Takes no memory. Up to three searches, and entries of the runs move up (not proved).
     pub fn add_capacity(&mut self, additional: usize)
         ensures grown { self.new.space ≡ grow additional self.old.space }
         ensures memory { self.new.memory ≡ self.old.memory }
@@ -236,7 +236,7 @@ impl FreeList {
 
     /// Gives back the block of `alloc_size` bytes at `index`. It merges with the runs that it touches;
     /// the whole is current where one of them was, or where it touches a current run used up whole.
-    /// Takes no memory. Up to four searches, and entries of the runs move (not proved).
+    /// Takes no memory. Up to three searches, and entries of the runs move (not proved).
     ///
     /// Condition: that block is held.
     pub fn dealloc_fast(&mut self, index: NonZeroU32, alloc_size: u32)

@@ -152,7 +152,8 @@ impl FreeRuns {
         insert_in_order(&mut self.by_length, Order::ByLength, run, steps);
     }
 
-    /// Puts freed places in, as one run with those that they touch: with one search by place.
+    /// Puts freed places in, as one run with those that they touch: with one search by place, and by length
+    /// one, or two where they touch a run at both ends.
     pub(crate) fn merge<L: Ledger>(&mut self, freed: Run, steps: &mut Steps<L>)
         requires fits { end_of freed < 2 ^ 32 }
         requires room { length (merged freed self.old.runs) ≤ self.old.room }
