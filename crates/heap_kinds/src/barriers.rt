@@ -38,8 +38,8 @@ fn own_words<H: GcHeap>(heap: &H, word: &VMGcRef) -> OwnWords
 /// and shown then.
 fn show_queued<H: GcHeap>(
     heap: &mut H,
-    ty: VMSharedTypeIndex,
     layout: &GcStructLayout,
+    ty: VMSharedTypeIndex,
 ) -> Result<VMGcRef, KindFault>
     requires counting { H.KIND ≡ Layouts.Counting }
     requires sound { H.sound heap.old }
@@ -77,7 +77,7 @@ fn collects_a_shown_one<H: GcHeap>(
     let layout = types
         .struct_layout(Layouts::Counting, ty)
         .ok_or(KindFault::Unmet("no layout"))?;
-    let word = show_queued(heap, ty, layout)?;
+    let word = show_queued(heap, layout, ty)?;
     let queued = own_words(heap, &word);
     let mut roots = GcRootsList::new(alloc);
     roots.reserve(1)?;

@@ -1,7 +1,7 @@
 //! Structs of undeclared type that are made in a heap that copies. After each step a collection may
 //! begin.
 
-ghost use Rattle.std.specs.Prelude.{◌≡◌, ◌≤◌, ◌<◌, ◌*◌, ◌%◌, ◌^◌, ◌+◌, OnOk, All, IfSome, Some};
+ghost use Rattle.std.specs.Prelude.{◌≡◌, ◌≤◌, ◌<◌, ◌*◌, ◌%◌, ◌^◌, ◌+◌, OnOk, IfOk, All, IfSome, Some};
 ghost use Rattle.std.specs.FinMap as finite;
 ghost use Rattle.gc_types.specs.declared.kind.Layouts.TheVariants.{Copying};
 ghost use Rattle.gc_types.specs.declared.kind.VMGcKind.TheVariants.{StructRef};
@@ -144,16 +144,19 @@ pub(crate) fn write_word<H: GcHeap>(
 }
 
 /// The word of a root, where it names an object.
-pub(crate) fn holder_at<H: GcHeap>(heap: &H, around: &Around, index: usize) -> Option<VMGcRef>
+fn holder_at<H: GcHeap>(heap: &H, around: &Around, index: usize) -> Result<VMGcRef, KindFault>
     requires can { CanCollect H.KIND (start_at (H.seen heap.now) around.now.roots.roots around.now.types.declarations around.now.hosts.entries) }
-    ensures { IfSome result (IsHeld (H.seen heap.now)) }
+    ensures { IfOk result (IsHeld (H.seen heap.now)) }
 {
     if index >= around.roots.len() {
-        return None;
+        return Err(KindFault::Unmet("no root"));
     }
     let word = around.roots.word_at(index);
     let _not_null = word.as_raw_u32();
-    if word.is_i31() { None } else { Some(word) }
+    if word.is_i31() {
+        return Err(KindFault::Unmet("no object"));
+    }
+    Ok(word)
 }
 
 /// Writes the word of an object into another one.
@@ -170,12 +173,8 @@ pub(crate) fn link<H: GcHeap>(
     ensures sound { H.sound heap.new }
     ensures can { OnOk result (CanCollect H.KIND (start_at (H.seen heap.new) around.now.roots.roots around.now.types.declarations around.now.hosts.entries)) }
 {
-    let Some(holder) = holder_at(heap, around, from) else {
-        return Err(KindFault::Unmet("no holder"));
-    };
-    let Some(word) = holder_at(heap, around, to) else {
-        return Err(KindFault::Unmet("no object"));
-    };
+    let holder = holder_at(heap, around, from)?;
+    let word = holder_at(heap, around, to)?;
     write_word(heap, around, &holder, offset, &word)
 }
 
@@ -192,9 +191,7 @@ pub(crate) fn put_plain<H: GcHeap>(
     ensures sound { H.sound heap.new }
     ensures can { OnOk result (CanCollect H.KIND (start_at (H.seen heap.new) around.now.roots.roots around.now.types.declarations around.now.hosts.entries)) }
 {
-    let Some(holder) = holder_at(heap, around, from) else {
-        return Err(KindFault::Unmet("no holder"));
-    };
+    let holder = holder_at(heap, around, from)?;
     let header = heap.header(&holder)?;
     let size = heap.object_size(&holder)?;
     if !holder.is_structref(heap) || header.reserved_u26() != 1 || size < 20 {
