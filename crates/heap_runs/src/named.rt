@@ -21,38 +21,46 @@ pub(crate) struct Named {
     pub(crate) bytes: VMSharedTypeIndex,
 }
 
-/// A mutable field.
-fn mutable(element_type: StorageType) -> FieldType {
-    FieldType {
-        mutability: Mutability::Var,
-        element_type,
-    }
-}
+/// Any reference.
+const ANY: ValType = ValType::Ref(RefType {
+    nullable: true,
+    heap_type: HeapType::Any,
+});
+
+/// A reference that may be written.
+const REFERENCE: FieldType = FieldType {
+    mutability: Mutability::Var,
+    element_type: StorageType::ValType(ANY),
+};
+
+/// A number of 32 bits that may be written.
+const NUMBER: FieldType = FieldType {
+    mutability: Mutability::Var,
+    element_type: StorageType::ValType(ValType::I32),
+};
+
+/// A byte that may be written.
+const BYTE: FieldType = FieldType {
+    mutability: Mutability::Var,
+    element_type: StorageType::I8,
+};
 
 impl Named {
     /// Declares the types.
     pub(crate) fn declare(alloc: Global) -> Result<(Types, Named), TypeFault> {
-        let any = ValType::Ref(RefType {
-            nullable: true,
-            heap_type: HeapType::Any,
-        });
-        let reference = mutable(StorageType::ValType(any));
         let mut types = Types::new(alloc, 1, 1);
-        let cell = types.declare_struct(&[reference], None, true)?.index();
-        let field = mutable(StorageType::ValType(ValType::I32));
-        let number = types.declare_struct(&[field], None, true)?.index();
-        let exception = types.declare_exn(&[any])?.index();
-        let references = types.declare_array(reference, None, true)?.index();
-        let bytes = types
-            .declare_array(mutable(StorageType::I8), None, true)?
-            .index();
-        let named = Named {
-            cell,
-            number,
-            exception,
-            references,
-            bytes,
-        };
+        let named = Named::declare_in(&mut types)?;
         Ok((types, named))
+    }
+
+    /// Declares the types in a table that has none.
+    fn declare_in(types: &mut Types) -> Result<Named, TypeFault> {
+        Ok(Named {
+            cell: types.declare_struct(&[REFERENCE], None, true)?.index(),
+            number: types.declare_struct(&[NUMBER], None, true)?.index(),
+            exception: types.declare_exn(&[ANY])?.index(),
+            references: types.declare_array(REFERENCE, None, true)?.index(),
+            bytes: types.declare_array(BYTE, None, true)?.index(),
+        })
     }
 }
