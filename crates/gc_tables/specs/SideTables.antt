@@ -1,5 +1,5 @@
 -- What contracts see of a side table.
-use Rattle.std.specs.Prelude.{◌≡◌, ◌↔◌, ℕ, ◌^◌, ◌<◌, Option, Some, None, refl}
+use Rattle.std.specs.Prelude.{◌≡◌, ◌↔◌, ℕ, ◌^◌, ◌<◌, ◌≤◌, Option, Some, None, Result, OnOk, IsOk, refl}
 use Rattle.std.specs.Ordering.{nat_cmp}
 use Rattle.std.specs.FinMap as map
 use Rattle.std.specs.Coded.{Coded, code_by, coded×, coded_ℕ}
@@ -29,3 +29,10 @@ value_at t id = map.get t.entries id
 -- the number of entries
 abbrev pub entry_count : {T : Type 0} → SideTable T → ℕ
 entry_count t = map.len t.entries
+
+-- Room is made for so many more entries, which stay as they are: where there was enough, memory can't be wanting.
+pub record MakesRoom {T E : Type 0} (old new : SideTable T) (additional : ℕ) (result : Result (Unit {0}) E) : Type 0 where
+  pub entries : new.entries ≡ old.entries
+  pub room : OnOk result (additional ≤ new.spare)
+  pub succeeds : additional ≤ old.spare → IsOk result
+  pub grown : old.spare ≤ new.spare

@@ -2,7 +2,7 @@
 
 ghost use Rattle.std.specs.Prelude.{ℕ, ◌≡◌, ◌↔◌, ◌+◌, ◌<◌, ◌≤◌, IsSome, IfSome, IfOk, OnOk, OnErr, IsOk, IsNone, IsErrOf, IsTrue, option_copied};
 ghost use Rattle.std.specs.FinMap as map;
-ghost use Rattle.gc_tables.specs.SideTables.{SideTable, max_entries, value_at, entry_count};
+ghost use Rattle.gc_tables.specs.SideTables.{SideTable, max_entries, value_at, entry_count, MakesRoom};
 ghost use Rattle.gc_tables.specs.Interned.{IsInterned, IsIdOf, Interns};
 
 use crate::id::Id;
@@ -131,10 +131,7 @@ impl<K: Exact> Interner<K> {
     }
 
     pub(crate) fn reserve(&mut self, additional: usize) -> Result<(), AllocError>
-        ensures entries { self.new.entries ≡ self.old.entries }
-        ensures room { OnOk result (additional ≤ self.new.spare) }
-        ensures succeeds { additional ≤ self.old.spare → IsOk result }
-        ensures grown { self.old.spare ≤ self.new.spare }
+        ensures { MakesRoom self.old self.new additional result }
     {
         self.values.reserve(additional)?;
         self.ids.reserve(additional)
