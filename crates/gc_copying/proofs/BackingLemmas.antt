@@ -17,7 +17,7 @@ use Rattle.gc_heap.specs.Objects.{IsObjectData}
 use Rattle.gc_heap.specs.Heap.{put_object, grown}
 use Rattle.gc_heap.specs.Barriers.{raise, lower, show, cloned, dropped, exposed, copied, emptied, overwritten}
 use Rattle.gc_heap.proofs.MemoryLemmas as memory
-use Rattle.gc_heap.specs.Backings.{IsAttached, Gives, Takes}
+use Rattle.gc_heap.specs.Backings.{IsAttached, Gives, Takes, objects_in}
 use Rattle.gc_copying.specs.Layout.{first_place, places_in}
 use Rattle.gc_copying.specs.Growth.{bump_in_more}
 use Rattle.gc_copying.proofs.ObjectLemmas.{len-at}
@@ -122,6 +122,12 @@ put_same h q o held = ap (λ m. record h { content = m }) (finite.same_map nat_c
 -- as many objects as are counted
 pub count_of : (scopes : ℕ) (s : Space) → IsSound s → s.objects ≡ finite.len (seen_in scopes s).content
 count_of scopes s sound = sound.count ∙ sym (len-at s.memory (first_place (length s.memory) s.upper) s.bump (places_in s.memory s.upper s.bump) sound.chain)
+
+-- as many objects are told as are seen
+pub objects_counted : (scopes : ℕ) (b : Backing) → IsBacked b → objects_in (λ (s : Space). s.objects) b ≡ finite.len (seen_of scopes b).content
+objects_counted scopes backing.Detached backed = sym (finite.len-empty nat_cmp HeapObject)
+objects_counted scopes (backing.Attached s) backed = count_of scopes s backed
+objects_counted scopes (backing.Taken m) backed = absurd backed
 
 -- What a heap is after its memory was put back.
 pub record PutsBack (scopes : ℕ) (s : Space) (view : HeapView) (delta : ℕ) : Type 0 where

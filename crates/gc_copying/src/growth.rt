@@ -53,6 +53,8 @@ impl HeapSpace for Space {
 
     ghost marks = { marks_of };
 
+    ghost objects = { λ s. s.objects };
+
     fn into_memory(self) -> (HeapMemory, Marks) {
         let marks = Marks {
             upper: self.upper,
@@ -61,6 +63,10 @@ impl HeapSpace for Space {
             objects: self.objects,
         };
         (self.memory, marks)
+    }
+
+    fn object_count(&self) -> u64 {
+        self.objects
     }
 }
 

@@ -198,9 +198,7 @@ impl GcHeap for CopyingHeap {
         self.scopes -= 1;
     }
 
-    fn clone_gc_ref(&mut self, gc_ref: &VMGcRef) -> VMGcRef {
-        gc_ref.unchecked_copy()
-    }
+    fn count_gc_ref(&mut self, gc_ref: &VMGcRef) {}
 
     fn drop_gc_ref(&mut self, gc_ref: VMGcRef) {}
 
@@ -242,10 +240,7 @@ impl GcHeap for CopyingHeap {
     }
 
     fn object_count(&self) -> u64 {
-        match &self.backing {
-            Backing::Attached(space) => space.objects,
-            _ => 0,
-        }
+        self.backing.object_count()
     }
 
     fn allocated_bytes(&self) -> usize {

@@ -16,7 +16,7 @@ use Rattle.gc_heap.specs.Objects.{IsObjectData}
 use Rattle.gc_heap.specs.Heap.{grown}
 use Rattle.gc_heap.specs.Barriers.{raise, lower, show, cloned, dropped, exposed, copied, CanUnname, CanUnnameSlot, IsNamed}
 use Rattle.gc_heap.proofs.MemoryLemmas as memory
-use Rattle.gc_heap.specs.Backings.{IsAttached, Gives, Takes}
+use Rattle.gc_heap.specs.Backings.{objects_in, IsAttached, Gives, Takes}
 use Rattle.gc_drc.specs.declared.space.CountedSpace.{CountedSpace}
 use Rattle.gc_drc.specs.declared.growth.Marks.{Marks}
 use Rattle.gc_drc.specs.declared.heap.DrcHeap.{DrcHeap}
@@ -99,8 +99,11 @@ count_of scopes s sound =
     h.count ∙ sym (ap (λ ps. finite.len (at_places (object_at s.memory) ps)) (places_are v s h)
     ∙ len-at (object_at s.memory) v.sizes 16 (places_end s.free.space.capacity) v.places (blocks_apart v s h))
 
-pub count_detached : (scopes : ℕ) (b : Backing) → ((s : CountedSpace) → b ≡ backing.Attached s → ⊥) → 0 ≡ finite.len (seen_of scopes b).content
-count_detached scopes b never = sym (ap (λ (h : HeapView). finite.len h.content) (not_attached scopes b never) ∙ finite.len-empty nat_cmp HeapObject)
+-- as many objects are told as are seen
+pub objects_counted : (scopes : ℕ) (b : Backing) → IsBacked b → objects_in (λ (s : CountedSpace). s.objects) b ≡ finite.len (seen_of scopes b).content
+objects_counted scopes backing.Detached backed = sym (finite.len-empty nat_cmp HeapObject)
+objects_counted scopes (backing.Attached s) backed = count_of scopes s backed
+objects_counted scopes (backing.Taken m) backed = absurd backed
 
 pub allocated_detached : (scopes : ℕ) (b : Backing) → ((s : CountedSpace) → b ≡ backing.Attached s → ⊥) → 0 ≡ (seen_of scopes b).allocated
 allocated_detached scopes b never = sym (ap (λ (h : HeapView). h.allocated) (not_attached scopes b never))

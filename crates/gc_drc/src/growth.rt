@@ -53,6 +53,8 @@ impl HeapSpace for CountedSpace {
 
     ghost marks = { marks_of };
 
+    ghost objects = { λ s. s.objects };
+
     fn into_memory(self) -> (HeapMemory, Marks) {
         let marks = Marks {
             free: self.free,
@@ -62,6 +64,10 @@ impl HeapSpace for CountedSpace {
             allocated: self.allocated,
         };
         (self.memory, marks)
+    }
+
+    fn object_count(&self) -> u64 {
+        self.objects
     }
 }
 

@@ -251,9 +251,8 @@ impl GcHeap for DrcHeap {
         self.scopes -= 1;
     }
 
-    fn clone_gc_ref(&mut self, gc_ref: &VMGcRef) -> VMGcRef {
+    fn count_gc_ref(&mut self, gc_ref: &VMGcRef) {
         self.name(gc_ref);
-        gc_ref.unchecked_copy()
     }
 
     fn drop_gc_ref(&mut self, gc_ref: VMGcRef) {
@@ -330,10 +329,7 @@ impl GcHeap for DrcHeap {
     }
 
     fn object_count(&self) -> u64 {
-        match &self.backing {
-            Backing::Attached(space) => space.objects,
-            _ => 0,
-        }
+        self.backing.object_count()
     }
 
     fn allocated_bytes(&self) -> usize {

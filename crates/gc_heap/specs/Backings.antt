@@ -20,3 +20,9 @@ abbrev pub Takes : {S M : Type 0} → (S → List ℕ) → (S → M) → Backing
 Takes memory marks backing.Detached after bytes = ⊥
 Takes memory marks (backing.Attached s) after bytes = (bytes ≡ memory s) × (after ≡ backing.Taken (marks s))
 Takes memory marks (backing.Taken m) after bytes = ⊥
+
+-- how many objects lie in the memory; none where it isn't attached
+abbrev pub objects_in : {S M : Type 0} → (S → ℕ) → Backing S M → ℕ
+objects_in objects backing.Detached = 0
+objects_in objects (backing.Attached s) = objects s
+objects_in objects (backing.Taken m) = 0

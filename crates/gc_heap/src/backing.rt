@@ -1,7 +1,7 @@
 //! Where a heap has its memory: attached, taken out so that it can grow, or nowhere.
 
 ghost use Rattle.std.specs.Prelude.{◌≡◌};
-ghost use Rattle.gc_heap.specs.Backings.{IsAttached, Gives, Takes};
+ghost use Rattle.gc_heap.specs.Backings.{IsAttached, Gives, Takes, objects_in};
 
 use gc_memory::HeapMemory;
 use std::mem;
@@ -19,9 +19,16 @@ pub trait HeapSpace: Drop {
     /// What is known of it.
     ghost marks: { Self → Self.Marks };
 
+    /// How many objects lie in it.
+    ghost objects: { Self → ℕ };
+
     /// Takes the memory out.
     fn into_memory(self) -> (HeapMemory, Self::Marks)
         ensures { result ≡ (memory self, marks self) };
+
+    /// How many objects lie in the memory.
+    fn object_count(&self) -> u64
+        ensures { result ≡ objects self.now };
 }
 
 /// Where a heap has its memory.
@@ -34,6 +41,16 @@ pub enum Backing<S, M> {
 }
 
 impl<S: HeapSpace> Backing<S, S::Marks> {
+    /// How many objects lie in the memory; none where it isn't attached.
+    pub fn object_count(&self) -> u64
+        ensures { result ≡ objects_in S.objects self.now }
+    {
+        match self {
+            Backing::Attached(space) => space.object_count(),
+            _ => 0,
+        }
+    }
+
     /// Gives the memory away.
     pub fn detach(&mut self) -> HeapMemory
         requires { IsAttached self.old }

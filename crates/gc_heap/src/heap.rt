@@ -198,13 +198,24 @@ pub trait GcHeap {
 
     // Barriers
 
-    /// The same word once more. A heap that counts references counts it.
-    fn clone_gc_ref(&mut self, gc_ref: &VMGcRef) -> VMGcRef
+    /// A word is to be there once more. A heap that counts references counts it.
+    fn count_gc_ref(&mut self, gc_ref: &VMGcRef)
+        requires sound { sound self.old }
+        requires named { CanName (seen self.old) gc_ref.now }
+        ensures sound { sound self.new }
+        ensures seen { seen self.new ≡ cloned (seen self.old) gc_ref.now };
+
+    /// The same word once more, which is counted.
+    final fn clone_gc_ref(&mut self, gc_ref: &VMGcRef) -> VMGcRef
         requires sound { sound self.old }
         requires named { CanName (seen self.old) gc_ref.now }
         ensures sound { sound self.new }
         ensures value { result ≡ gc_ref.now }
-        ensures seen { seen self.new ≡ cloned (seen self.old) gc_ref.now };
+        ensures seen { seen self.new ≡ cloned (seen self.old) gc_ref.now }
+    {
+        self.count_gc_ref(gc_ref);
+        gc_ref.unchecked_copy()
+    }
 
     /// A word is given up. A heap that counts references takes it off.
     fn drop_gc_ref(&mut self, gc_ref: VMGcRef)

@@ -163,9 +163,7 @@ impl GcHeap for NullHeap {
         self.scopes -= 1;
     }
 
-    fn clone_gc_ref(&mut self, gc_ref: &VMGcRef) -> VMGcRef {
-        gc_ref.unchecked_copy()
-    }
+    fn count_gc_ref(&mut self, _gc_ref: &VMGcRef) {}
 
     fn drop_gc_ref(&mut self, _gc_ref: VMGcRef) {}
 
