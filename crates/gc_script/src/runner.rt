@@ -73,6 +73,8 @@ impl Runner {
     /// they make a root or their register was never set, and `take` where an exception is pending or it never was.
     /// The time is linear in the command's length and in the number of the register that it sets, beside
     /// that of a collection and of new memory, and for `leave` in the roots that it drops.
+    // In place: where a caller knows the command, what is left of this is the command's own arm.
+    #[inline(always)]
     pub fn run_one<H: GcHeap, L: ResourceLimiter>(
         &mut self,
         store: &mut Store<H, u64>,

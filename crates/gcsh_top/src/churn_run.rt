@@ -177,6 +177,8 @@ impl Churner {
     }
 
     /// Runs one command.
+    // In place, so that `run_one` stands where the command is known.
+    #[inline(always)]
     fn run<H: GcHeap>(
         &mut self,
         store: &mut Store<H, u64>,
