@@ -60,71 +60,35 @@ pub(crate) enum Look {
 }
 
 /// What a case does that begins with a word.
-pub(crate) fn does_of(word: &str) -> Option<Does> {
-    if word == "gc" {
-        return Some(Does::Collects);
-    }
-    if let Some(make) = make_of(word) {
-        return Some(Does::Makes(make));
-    }
-    if let Some(change) = change_of(word) {
-        return Some(Does::Changes(change));
-    }
-    if let Some(look) = look_of(word) {
-        return Some(Does::Looks(look));
-    }
-    Some(Does::Starts(start_of(word)?))
-}
-
-fn start_of(word: &str) -> Option<Start> {
-    match word {
-        "heaps" => Some(Start::Heaps),
-        "half" => Some(Start::Half),
-        "kinds" => Some(Start::Kinds),
-        "scopes" => Some(Start::Scopes),
-        "collections" => Some(Start::Collections),
-        "unchecked" => Some(Start::Unchecked),
-        _ => None,
-    }
-}
-
-fn make_of(word: &str) -> Option<Make> {
-    match word {
-        "struct" => Some(Make::Struct),
-        "array" => Some(Make::Array),
-        "host" => Some(Make::Host),
-        "number" => Some(Make::Number),
-        "copy" => Some(Make::Copy),
-        "show" => Some(Make::Show),
-        "fill" => Some(Make::Fill),
-        _ => None,
-    }
-}
-
-fn change_of(word: &str) -> Option<Change> {
-    match word {
-        "link" => Some(Change::Link),
-        "clear" => Some(Change::Clear),
-        "put" => Some(Change::Put),
-        "drop" => Some(Change::Drop),
-        "leave" => Some(Change::Leave),
-        "grow" => Some(Change::Grow),
-        _ => None,
-    }
-}
-
-fn look_of(word: &str) -> Option<Look> {
-    match word {
-        "count" => Some(Look::Count),
-        "heap" => Some(Look::Heap),
-        "see" => Some(Look::See),
-        "same" => Some(Look::Same),
-        "at" => Some(Look::At),
-        "header" => Some(Look::Header),
-        "data" => Some(Look::Data),
-        "raw" => Some(Look::Raw),
-        "refused" => Some(Look::Refused),
-        "is" => Some(Look::Is),
-        _ => None,
-    }
-}
+pub(crate) const CASES: [(&str, Does); 30] = [
+    ("gc", Does::Collects),
+    ("heaps", Does::Starts(Start::Heaps)),
+    ("half", Does::Starts(Start::Half)),
+    ("kinds", Does::Starts(Start::Kinds)),
+    ("scopes", Does::Starts(Start::Scopes)),
+    ("collections", Does::Starts(Start::Collections)),
+    ("unchecked", Does::Starts(Start::Unchecked)),
+    ("struct", Does::Makes(Make::Struct)),
+    ("array", Does::Makes(Make::Array)),
+    ("host", Does::Makes(Make::Host)),
+    ("number", Does::Makes(Make::Number)),
+    ("copy", Does::Makes(Make::Copy)),
+    ("show", Does::Makes(Make::Show)),
+    ("fill", Does::Makes(Make::Fill)),
+    ("link", Does::Changes(Change::Link)),
+    ("clear", Does::Changes(Change::Clear)),
+    ("put", Does::Changes(Change::Put)),
+    ("drop", Does::Changes(Change::Drop)),
+    ("leave", Does::Changes(Change::Leave)),
+    ("grow", Does::Changes(Change::Grow)),
+    ("count", Does::Looks(Look::Count)),
+    ("heap", Does::Looks(Look::Heap)),
+    ("see", Does::Looks(Look::See)),
+    ("same", Does::Looks(Look::Same)),
+    ("at", Does::Looks(Look::At)),
+    ("header", Does::Looks(Look::Header)),
+    ("data", Does::Looks(Look::Data)),
+    ("raw", Does::Looks(Look::Raw)),
+    ("refused", Does::Looks(Look::Refused)),
+    ("is", Does::Looks(Look::Is)),
+];

@@ -6,7 +6,7 @@ use crate::fault::CaseFault;
 use crate::looks::show_marks;
 use gc_heap::{GcHeap, RefKinds};
 use gc_refs::{GcHeapObject, TypedGcRef, VMGcHeader, VMGcRef};
-use std::io::Write;
+use std::alloc::AllocError;
 
 /// An object of type 3.
 struct OfTypeThree;
@@ -22,19 +22,16 @@ impl GcHeapObject for OfTypeThree {
 }
 
 /// Writes what a word is, which references it gives, and into which it turns.
-pub(crate) fn show_kinds<H: GcHeap, W: Write + Drop>(
+pub(crate) fn show_kinds<H: GcHeap>(
     heap: &H,
     gc_ref: &VMGcRef,
-    out: &mut W,
-) -> Result<(), CaseFault>
+    out: &mut String,
+) -> Result<(), AllocError>
     requires { H.sound heap.now }
 {
-    write!(out, "is ")?;
-    show_marks(&is(heap, gc_ref), out)?;
-    write!(out, ", gives ")?;
-    show_marks(&gives(heap, gc_ref), out)?;
-    write!(out, ", turns into ")?;
-    show_marks(&turns(heap, gc_ref), out)
+    show_marks("is ", &is(heap, gc_ref), out)?;
+    show_marks(", gives ", &gives(heap, gc_ref), out)?;
+    show_marks(", turns into ", &turns(heap, gc_ref), out)
 }
 
 /// Whether the word is that of a struct, an array, an exception, an external object; whether it is an
@@ -108,12 +105,9 @@ fn unchecked_words(gc_ref: &VMGcRef) -> [u32; 9]
 }
 
 /// Writes the words of what the calls give that look at no object.
-pub(crate) fn show_unchecked<W: Write + Drop>(word: u32, out: &mut W) -> Result<(), CaseFault> {
+pub(crate) fn show_unchecked(word: u32, out: &mut String) -> Result<(), CaseFault> {
     match VMGcRef::from_raw_u32(word) {
-        Some(gc_ref) if word % 2 == 0 => {
-            write!(out, "{:?}", unchecked_words(&gc_ref))?;
-            Ok(())
-        }
+        Some(gc_ref) if word % 2 == 0 => { Ok(write!(out, "{:?}", unchecked_words(&gc_ref))?) }
         _ => Err(CaseFault::BadCase),
     }
 }

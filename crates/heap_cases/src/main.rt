@@ -48,48 +48,50 @@ use crate::fault::CaseFault;
 use crate::heaps::Heaps;
 use std::alloc::Global;
 use std::io;
-use std::io::{BufWriter, Write};
 
-/// Prints each case of a text with its answer.
-fn answer_cases<W: Write + Drop>(alloc: Global, text: &str, out: &mut W) -> Result<(), CaseFault> {
-    let mut heaps = Heaps::new(alloc, 1)?;
-    answer_lines(alloc, &mut heaps, text, out)
-}
-
-/// Prints each case of a text with what the heaps answer.
-fn answer_lines<W: Write + Drop>(
+/// Adds each case of a text with what the heaps answer.
+fn answer_lines(
     alloc: Global,
     heaps: &mut Heaps,
     text: &str,
-    out: &mut W,
+    out: &mut String,
 ) -> Result<(), CaseFault> {
     for line in text.lines() {
         if !line.is_empty() && !line.starts_with("//") {
-            answer_case(alloc, heaps, line, out)?;
+            answer_line(alloc, heaps, line, out)?;
         }
     }
     Ok(())
 }
 
-/// Prints a case with its answer.
-fn answer_case<W: Write + Drop>(
+/// Adds a case with its answer.
+fn answer_line(
     alloc: Global,
     heaps: &mut Heaps,
     line: &str,
-    out: &mut W,
+    out: &mut String,
 ) -> Result<(), CaseFault> {
     let case = case_of(alloc, line)?;
-    write!(out, "{line}: ")?;
-    heaps.answer(alloc, &case, out)?;
-    writeln!(out)?;
-    Ok(())
+    heaps.answer(alloc, line, &case, out)
+}
+
+/// Adds each case of a text with what new heaps of a page answer.
+fn answer_text(alloc: Global, text: &str, out: &mut String) -> Result<(), CaseFault> {
+    let mut heaps = Heaps::new(alloc, 1)?;
+    answer_lines(alloc, &mut heaps, text, out)
+}
+
+/// Each case of a text with what new heaps answer.
+fn answers(alloc: Global, text: &str) -> Result<String, CaseFault> {
+    let mut out = String::new(alloc);
+    answer_text(alloc, text, &mut out)?;
+    Ok(out)
 }
 
 fn main(rt: HostRuntime) -> Result<(), CaseFault> {
     let alloc = rt.alloc();
     let text = io::read_to_string(alloc, rt.reader())?;
-    let mut out = BufWriter::new(alloc, io::writer(&rt))?;
-    answer_cases(alloc, text.as_str(), &mut out)?;
-    out.flush()?;
+    let shown = answers(alloc, text.as_str())?;
+    print!(rt; "{shown}")?;
     Ok(())
 }

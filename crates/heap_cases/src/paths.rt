@@ -5,7 +5,6 @@ use crate::fault::CaseFault;
 use gc_heap::{GcHeap, RefKinds};
 use gc_mutator::Mutator;
 use gc_refs::{VMArrayRef, VMExternRef, VMGcRef};
-use std::io::Write;
 
 /// The word of a root.
 pub(crate) fn root_of<H: GcHeap>(m: &Mutator<H>, root: u64) -> Result<VMGcRef, CaseFault> {
@@ -54,49 +53,50 @@ pub(crate) fn follow<H: GcHeap>(
 }
 
 /// Writes what a word is.
-pub(crate) fn show_word<H: GcHeap, W: Write + Drop>(
+pub(crate) fn show_word<H: GcHeap>(
     m: &Mutator<H>,
     word: VMGcRef,
-    out: &mut W,
+    out: &mut String,
 ) -> Result<(), CaseFault> {
     if let Some(i31) = word.as_i31() {
-        write!(out, "number {}", i31.get_u32())?;
-        return Ok(());
+        return Ok(write!(out, "number {}", i31.get_u32())?);
     }
-    let ty = m.heap().header(&word)?.type_index().as_u32();
     if word.is_arrayref(m.heap()) {
-        show_array(m, word, ty, out)
+        show_array(m, word, out)
     } else if word.is_externref(m.heap()) {
         show_external(m, word, out)
     } else {
-        let is_exception = word.is_exnref(m.heap());
-        let kind = if is_exception { "exception" } else { "struct" };
-        write!(out, "{kind} of type {ty}")?;
-        Ok(())
+        show_struct(m, word, out)
     }
 }
 
-/// Writes the type and the length of an array.
-fn show_array<H: GcHeap, W: Write + Drop>(
+/// Writes the type of a struct or an exception.
+fn show_struct<H: GcHeap>(
     m: &Mutator<H>,
     word: VMGcRef,
-    ty: u32,
-    out: &mut W,
+    out: &mut String,
 ) -> Result<(), CaseFault> {
+    let ty = m.heap().header(&word)?.type_index().as_u32();
+    let is_exception = word.is_exnref(m.heap());
+    let kind = if is_exception { "exception" } else { "struct" };
+    Ok(write!(out, "{kind} of type {ty}")?)
+}
+
+/// Writes the type and the length of an array.
+fn show_array<H: GcHeap>(m: &Mutator<H>, word: VMGcRef, out: &mut String) -> Result<(), CaseFault> {
+    let ty = m.heap().header(&word)?.type_index().as_u32();
     let length = m.heap().array_len(&VMArrayRef::new_unchecked(word))?;
-    write!(out, "array of type {ty}, length {length}")?;
-    Ok(())
+    Ok(write!(out, "array of type {ty}, length {length}")?)
 }
 
 /// Writes the id of an external object, and its host value.
-fn show_external<H: GcHeap, W: Write + Drop>(
+fn show_external<H: GcHeap>(
     m: &Mutator<H>,
     word: VMGcRef,
-    out: &mut W,
+    out: &mut String,
 ) -> Result<(), CaseFault> {
     let value = m.host(word.unchecked_copy());
     let external = VMExternRef::new_unchecked(word);
     let id = m.heap().externref_host_data(&external)?.into_raw();
-    write!(out, "external object {id}, {value:?}")?;
-    Ok(())
+    Ok(write!(out, "external object {id}, {value:?}")?)
 }

@@ -1,64 +1,59 @@
 //! Cases that change a heap: objects, roots, fields, growth and collections.
 
-use crate::case::{Case, low_u32};
+use crate::case::{Case, firsts, low_u32};
 use crate::does::{Change, Does, Make};
 use crate::fault::CaseFault;
 use crate::looks::look;
-use crate::paths::{offset_of, root_of};
+use crate::paths::offset_of;
 use crate::types::{CELL, REFERENCES};
 use gc_heap::GcHeap;
 use gc_mutator::{Mutator, MutatorFault};
 use gc_types::VMSharedTypeIndex;
-use std::io::Write;
+use std::alloc::AllocError;
 
 /// Answers a case.
-pub(crate) fn answer<H: GcHeap, W: Write + Drop>(
+pub(crate) fn answer<H: GcHeap>(
     m: &mut Mutator<H>,
     case: &Case,
-    out: &mut W,
+    out: &mut String,
 ) -> Result<(), CaseFault> {
     let numbers = case.numbers.as_slice();
     match case.does {
-        Does::Makes(make) => answer_make(m, make, numbers, out),
+        Does::Makes(make) => Ok(answer_make(m, make, numbers, out)?),
         Does::Changes(change) => answer_change(m, change, numbers, out),
-        Does::Collects => answer_collect(m, out),
+        Does::Collects => Ok(answer_collect(m, out)?),
         Does::Looks(looks) => look(m, looks, numbers, case.others.as_slice(), out),
         Does::Starts(_) => Err(CaseFault::BadCase),
     }
 }
 
 /// Collects, and writes how many increments it took.
-fn answer_collect<H: GcHeap, W: Write + Drop>(
-    m: &mut Mutator<H>,
-    out: &mut W,
-) -> Result<(), CaseFault> {
+fn answer_collect<H: GcHeap>(m: &mut Mutator<H>, out: &mut String) -> Result<(), AllocError> {
     let increments = m.collect();
-    write!(out, "{increments} increments")?;
-    Ok(())
+    write!(out, "{increments} increments")
 }
 
 /// Makes an object or a root, and writes the index of the root, or why there is none.
-fn answer_make<H: GcHeap, W: Write + Drop>(
+fn answer_make<H: GcHeap>(
     m: &mut Mutator<H>,
     make: Make,
     numbers: &[u64],
-    out: &mut W,
-) -> Result<(), CaseFault> {
-    let made = match (make, numbers) {
-        (Make::Struct, &[ty]) => m.make_struct(type_of(ty)),
-        (Make::Array, &[ty, length]) => m.make_array(type_of(ty), low_u32(length)),
-        (Make::Host, &[value]) => m.make_host((value % 0x100) as u8),
-        (Make::Number, &[number]) => m.make_number(low_u32(number)),
-        (Make::Copy, &[root]) => m.copy_root(root as usize),
-        (Make::Show, &[root]) => m.show_root(root as usize),
-        (Make::Fill, &[count]) => fill(m, low_u32(count)),
-        _ => return Err(CaseFault::BadCase),
+    out: &mut String,
+) -> Result<(), AllocError> {
+    let [first, second, _] = firsts(numbers);
+    let made = match make {
+        Make::Struct => m.make_struct(type_of(first)),
+        Make::Array => m.make_array(type_of(first), low_u32(second)),
+        Make::Host => m.make_host((first % 0x100) as u8),
+        Make::Number => m.make_number(low_u32(first)),
+        Make::Copy => m.copy_root(first as usize),
+        Make::Show => m.show_root(first as usize),
+        Make::Fill => fill(m, low_u32(first)),
     };
     match made {
-        Ok(root) => write!(out, "{root}")?,
-        Err(fault) => write!(out, "{fault}")?,
+        Ok(root) => write!(out, "{root}"),
+        Err(fault) => write!(out, "{fault}"),
     }
-    Ok(())
 }
 
 /// The type of an index.
@@ -84,53 +79,62 @@ fn add_cell<H: GcHeap>(m: &mut Mutator<H>, array: usize, index: u32) -> Result<(
 }
 
 /// Writes a field, gives a root up, or grows the memory, and writes whether that was done, or why not.
-fn answer_change<H: GcHeap, W: Write + Drop>(
+fn answer_change<H: GcHeap>(
     m: &mut Mutator<H>,
     change: Change,
     numbers: &[u64],
-    out: &mut W,
+    out: &mut String,
 ) -> Result<(), CaseFault> {
-    let done = match (change, numbers) {
-        (Change::Link, &[holder, index, source]) => {
-            write_word(m, holder, index, Word::Root(source as usize))
-        }
-        (Change::Clear, &[holder, index]) => write_word(m, holder, index, Word::Null),
-        (Change::Put, &[holder, index, number]) => {
-            write_word(m, holder, index, Word::Number(low_u32(number)))
-        }
-        (Change::Drop, &[root]) => Ok(m.drop_root(root as usize)),
-        (Change::Leave, &[slot]) => Ok(m.leave_slot(slot as usize)),
-        (Change::Grow, &[pages]) => Ok(m.grow(low_u32(pages))),
-        _ => Err(CaseFault::BadCase),
-    }?;
+    let [first, second, third] = firsts(numbers);
+    let done = match change {
+        Change::Link => write_reference(m, first, second, Some(third as usize)),
+        Change::Clear => write_reference(m, first, second, None),
+        Change::Put => write_number(m, first, second, low_u32(third)),
+        Change::Drop => m.drop_root(first as usize),
+        Change::Leave => m.leave_slot(first as usize),
+        Change::Grow => m.grow(low_u32(first)),
+    };
+    Ok(show_done(done, out)?)
+}
+
+/// Writes that a change was done, or why not.
+fn show_done(done: Result<(), MutatorFault>, out: &mut String) -> Result<(), AllocError> {
     match done {
-        Ok(()) => write!(out, "done")?,
-        Err(fault) => write!(out, "{fault}")?,
+        Ok(()) => out.push_str("done"),
+        Err(fault) => write!(out, "{fault}"),
     }
-    Ok(())
 }
 
-/// What is written to a field.
-#[derive(Clone, Copy)]
-enum Word {
-    Null,
-    /// The word of a root.
-    Root(usize),
-    Number(u32),
-}
-
-/// Writes a word to a field.
-fn write_word<H: GcHeap>(
+/// Writes the word of a root, or null, to a field.
+fn write_reference<H: GcHeap>(
     m: &mut Mutator<H>,
     holder: u64,
     index: u64,
-    word: Word,
-) -> Result<Result<(), MutatorFault>, CaseFault> {
-    let offset = offset_of(m, &root_of(m, holder)?, low_u32(index));
+    source: Option<usize>,
+) -> Result<(), MutatorFault> {
     let holder = holder as usize;
-    match word {
-        Word::Null => Ok(m.write_reference(holder, offset, None)),
-        Word::Root(source) => Ok(m.write_reference(holder, offset, Some(source))),
-        Word::Number(number) => Ok(m.write_number(holder, offset, number)),
+    match m.root(holder) {
+        Some(word) => {
+            let offset = offset_of(m, &word, low_u32(index));
+            m.write_reference(holder, offset, source)
+        },
+        None => Err(MutatorFault::NoRoot),
+    }
+}
+
+/// Writes a number to a field.
+fn write_number<H: GcHeap>(
+    m: &mut Mutator<H>,
+    holder: u64,
+    index: u64,
+    number: u32,
+) -> Result<(), MutatorFault> {
+    let holder = holder as usize;
+    match m.root(holder) {
+        Some(word) => {
+            let offset = offset_of(m, &word, low_u32(index));
+            m.write_number(holder, offset, number)
+        },
+        None => Err(MutatorFault::NoRoot),
     }
 }

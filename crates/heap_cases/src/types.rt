@@ -45,9 +45,15 @@ fn declare_spread(alloc: Global, types: &mut Types, numbers: u32) -> Result<(), 
     Ok(())
 }
 
-/// Declares the types that `type_named` knows, in the order of their indexes.
+/// The types that `TYPES` names.
 pub(crate) fn declare(alloc: Global) -> Result<Types, CaseFault> {
     let mut types = Types::new(alloc, 1, 1);
+    declare_all(alloc, &mut types)?;
+    Ok(types)
+}
+
+/// Declares the types that `TYPES` names, in the order of their indexes.
+fn declare_all(alloc: Global, types: &mut Types) -> Result<(), CaseFault> {
     types.declare_struct(&[reference()], None, true)?;
     types.declare_struct(&[reference(), reference()], None, true)?;
     types.declare_struct(&[number(), number(), number()], None, true)?;
@@ -56,27 +62,24 @@ pub(crate) fn declare(alloc: Global) -> Result<Types, CaseFault> {
     types.declare_array(number(), None, true)?;
     types.declare_array(mutable(StorageType::I8), None, true)?;
     for numbers in [0, 3, 22, 23] {
-        declare_spread(alloc, &mut types, numbers)?;
+        declare_spread(alloc, types, numbers)?;
     }
     types.declare_struct(&[reference(); 30], None, true)?;
-    Ok(types)
+    Ok(())
 }
 
-/// The index of the type of that name.
-pub(crate) fn type_named(name: &str) -> Option<u32> {
-    match name {
-        "cell" => Some(CELL),
-        "pair" => Some(1),
-        "triple" => Some(TRIPLE),
-        "exception" => Some(3),
-        "references" => Some(REFERENCES),
-        "numbers" => Some(NUMBERS),
-        "bytes" => Some(6),
-        "spread0" => Some(7),
-        "spread3" => Some(8),
-        "spread22" => Some(9),
-        "spread23" => Some(10),
-        "thirty" => Some(11),
-        _ => None,
-    }
-}
+/// The declared types: the name and the index of each.
+pub(crate) const TYPES: [(&str, u32); 12] = [
+    ("cell", CELL),
+    ("pair", 1),
+    ("triple", TRIPLE),
+    ("exception", 3),
+    ("references", REFERENCES),
+    ("numbers", NUMBERS),
+    ("bytes", 6),
+    ("spread0", 7),
+    ("spread3", 8),
+    ("spread22", 9),
+    ("spread23", 10),
+    ("thirty", 11),
+];
