@@ -1,31 +1,19 @@
 //! Whether a value, as the store takes it, fits a type.
 
-ghost use Rattle.std.specs.Prelude.{◌≡◌};
 ghost use Rattle.gc_model.specs.Holds.{HoldsTable};
 ghost use Rattle.gc_model.specs.Table.{Table};
-ghost use Rattle.gc_store.specs.Values.{raw_handle};
 ghost use Rattle.gc_objects.specs.Answered.{ChecksHandle, RawFitsType};
 
 use crate::places::object_at;
 use gc_heap::GcHeap;
-use gc_store::{GcRootIndex, RawValue, RootFault, Store};
+use gc_store::{RawValue, RootFault, Store};
 use gc_types::ValType;
-
-/// The handle of a value as the store takes it, where it has one.
-fn handle_in(value: &RawValue) -> Option<GcRootIndex>
-    ensures { result ≡ raw_handle value.now }
-{
-    match value {
-        RawValue::Ref(_, handle) => *handle,
-        _ => None,
-    }
-}
 
 /// Whether a value has no handle or a live one: `WrongStore`, then `Unrooted`.
 fn check_handle<H: GcHeap, D: Drop>(store: &Store<H, D>, value: &RawValue) -> Result<(), RootFault>
     ensures { (t : Table D) → HoldsTable H.KIND store.now t → ChecksHandle store.now t value.now result }
 {
-    match handle_in(value) {
+    match value.handle() {
         Some(handle) => match &object_at(store, handle) {
             Ok(_) => Ok(()),
             Err(fault) => Err(*fault),
