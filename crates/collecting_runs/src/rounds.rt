@@ -1,9 +1,11 @@
 //! Rounds: some garbage, a collection that goes so far, and what the heap holds then.
 
-use crate::fault::RunFault;
-use crate::steps::{collect_after, collect_counted, count_after, drop_after, litter, place};
+use crate::steps::{
+    collect_after, collect_counted, count_after, drop_after, litter, place, place_one,
+};
 use gc_heap::GcHeap;
 use gc_store::{GcRootIndex, PageLimit, Store};
+use run_faults::Result;
 use std::mem;
 
 /// Host objects that stay rooted in each run of rounds.
@@ -22,7 +24,7 @@ const MOST_PAGES: u32 = 64;
 const SCANNED: u64 = 16_384;
 
 /// Prints how many objects the heap holds, and how many of them have host values.
-fn tell_held<H: GcHeap>(rt: &impl Print, store: &Store<H, u64>) -> Result<(), RunFault> {
+fn tell_held<H: GcHeap>(rt: &impl Print, store: &Store<H, u64>) -> Result<()> {
     let objects = store.held_objects();
     let values = store.held_host_values();
     println!(rt; "held {objects} {values}")?;
@@ -34,7 +36,7 @@ fn tell_value<H: GcHeap>(
     rt: &impl Print,
     store: &Store<H, u64>,
     handle: GcRootIndex,
-) -> Result<(), RunFault> {
+) -> Result<()> {
     match store.host_data(handle) {
         Ok(Some(value)) => println!(rt; "value {value}")?,
         Ok(None) => println!(rt; "no value")?,
@@ -47,10 +49,10 @@ fn tell_value<H: GcHeap>(
 pub(crate) fn run_dropped<H: GcHeap + Drop>(
     rt: &impl Print,
     store: &mut Store<H, u64>,
-) -> Result<(), RunFault> {
+) -> Result<()> {
     let mut limiter = PageLimit::new(MOST_PAGES);
     drop_after(rt, store, 1)?;
-    let kept = store.place_host(&mut limiter, 700)?;
+    let kept = place_one(store, &mut limiter, 700)?;
     place(store, &mut limiter, KEPT - 1)?;
     for increments in 0..MOST_INCREMENTS + 1 {
         litter(store, &mut limiter, GARBAGE)?;
@@ -65,9 +67,9 @@ pub(crate) fn run_dropped<H: GcHeap + Drop>(
 pub(crate) fn run_forgotten<H: GcHeap + Drop>(
     rt: &impl Print,
     store: &mut Store<H, u64>,
-) -> Result<(), RunFault> {
+) -> Result<()> {
     let mut limiter = PageLimit::new(MOST_PAGES);
-    let kept = store.place_host(&mut limiter, 700)?;
+    let kept = place_one(store, &mut limiter, 700)?;
     mem::forget(store.gc_start());
     tell_held(rt, store)?;
     tell_value(rt, store, kept)?;
@@ -82,7 +84,7 @@ pub(crate) fn run_forgotten<H: GcHeap + Drop>(
 pub(crate) fn run_collected<H: GcHeap + Drop>(
     rt: &impl Print,
     store: &mut Store<H, u64>,
-) -> Result<(), RunFault> {
+) -> Result<()> {
     let mut limiter = PageLimit::new(MOST_PAGES);
     for increments in 0..MOST_INCREMENTS + 1 {
         litter(store, &mut limiter, GARBAGE)?;
@@ -96,7 +98,7 @@ pub(crate) fn run_collected<H: GcHeap + Drop>(
 pub(crate) fn run_counted<H: GcHeap + Drop>(
     rt: &impl Print,
     store: &mut Store<H, u64>,
-) -> Result<(), RunFault> {
+) -> Result<()> {
     let mut limiter = PageLimit::new(MOST_PAGES);
     for increments in 0..2 {
         litter(store, &mut limiter, GARBAGE)?;
@@ -109,10 +111,7 @@ pub(crate) fn run_counted<H: GcHeap + Drop>(
 }
 
 /// Collects one object fewer than an increment looks at, and then as many: they take one increment more.
-pub(crate) fn run_many<H: GcHeap + Drop>(
-    rt: &impl Print,
-    store: &mut Store<H, u64>,
-) -> Result<(), RunFault> {
+pub(crate) fn run_many<H: GcHeap + Drop>(rt: &impl Print, store: &mut Store<H, u64>) -> Result<()> {
     let mut limiter = PageLimit::new(MOST_PAGES);
     place(store, &mut limiter, SCANNED - 1 - KEPT)?;
     drop_after(rt, store, 4)?;

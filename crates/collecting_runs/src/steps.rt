@@ -3,21 +3,33 @@
 ghost use Rattle.std.specs.Prelude.{◌≡◌, ◌<◌, true};
 ghost use Rattle.gc_store.specs.Collectings.{IsCollected, CountsCollection};
 
-use crate::fault::RunFault;
 use gc_heap::{GcHeap, GcProgress};
 use gc_steps::Steps;
-use gc_store::{Collecting, PageLimit, RootScope, Store};
+use gc_store::{Collecting, GcRootIndex, PageLimit, RootScope, Store};
+use run_faults::{Result, RunFault};
 use std::marker::Brand;
 use std::sync::ledger::{Blank, Ledger};
+
+/// Makes a host object with a scoped root.
+pub(crate) fn place_one<H: GcHeap>(
+    store: &mut Store<H, u64>,
+    limiter: &mut PageLimit,
+    value: u64,
+) -> Result<GcRootIndex> {
+    match store.place_host(limiter, value) {
+        Ok(root) => Ok(root),
+        Err(_) => return Err(RunFault::NotMade),
+    }
+}
 
 /// Makes so many host objects, each with a scoped root of its own.
 pub(crate) fn place<H: GcHeap>(
     store: &mut Store<H, u64>,
     limiter: &mut PageLimit,
     count: u64,
-) -> Result<(), RunFault> {
+) -> Result<()> {
     for value in 0..count {
-        store.place_host(limiter, value)?;
+        place_one(store, limiter, value)?;
     }
     Ok(())
 }
@@ -27,13 +39,13 @@ pub(crate) fn litter<H: GcHeap>(
     store: &mut Store<H, u64>,
     limiter: &mut PageLimit,
     count: u64,
-) -> Result<(), RunFault> {
+) -> Result<()> {
     let mut scope = RootScope::new(store);
     place(scope.store(), limiter, count)
 }
 
 /// Prints what an increment answered.
-fn tell(rt: &impl Print, progress: GcProgress) -> Result<(), RunFault> {
+fn tell(rt: &impl Print, progress: GcProgress) -> Result<()> {
     match progress {
         GcProgress::Continue => println!(rt; "goes on")?,
         GcProgress::Complete => println!(rt; "complete")?,
@@ -46,7 +58,7 @@ fn do_increments<H: GcHeap + Drop>(
     rt: &impl Print,
     collecting: &mut Collecting<'_, H, u64>,
     increments: u64,
-) -> Result<(), RunFault> {
+) -> Result<()> {
     for _ in 0..increments {
         tell(rt, collecting.collect_increment())?;
     }
@@ -58,7 +70,7 @@ pub(crate) fn drop_after<H: GcHeap + Drop>(
     rt: &impl Print,
     store: &mut Store<H, u64>,
     increments: u64,
-) -> Result<(), RunFault> {
+) -> Result<()> {
     let mut collecting = store.gc_start();
     do_increments(rt, &mut collecting, increments)
 }
@@ -68,7 +80,7 @@ pub(crate) fn collect_after<H: GcHeap + Drop>(
     rt: &impl Print,
     store: &mut Store<H, u64>,
     increments: u64,
-) -> Result<(), RunFault> {
+) -> Result<()> {
     let mut collecting = store.gc_start();
     do_increments(rt, &mut collecting, increments)?;
     collecting.collect();
@@ -115,7 +127,7 @@ pub(crate) fn count_after<H: GcHeap + Drop>(
     rt: &impl Print,
     store: &mut Store<H, u64>,
     increments: u64,
-) -> Result<(), RunFault> {
+) -> Result<()> {
     let mut collecting = store.gc_start();
     do_increments(rt, &mut collecting, increments)?;
     count_rest::<Brand, H>(&mut collecting, Blank::new(1));

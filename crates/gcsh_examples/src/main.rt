@@ -18,6 +18,12 @@ use run::{outcome_of, run_script};
 use std::io::{BufWriter, Write};
 use std::{env, fs, io};
 
+/// The text of a file of a folder.
+fn read_file(rt: &HostRuntime, folder: &str, name: &str) -> Result<String, ExampleFault> {
+    let path = format!(in rt.alloc(); "{folder}/{name}")?;
+    Ok(fs::read_to_string(rt, path.as_str())?)
+}
+
 /// Runs an example of a folder, and writes how it ended.
 fn run_example<W: Write + Drop>(
     rt: &HostRuntime,
@@ -25,18 +31,28 @@ fn run_example<W: Write + Drop>(
     line: &str,
     out: &mut W,
 ) -> Result<(), ExampleFault> {
-    let alloc = rt.alloc();
     let example = Example::parse(line).ok_or(ExampleFault::NoExample)?;
-    let path = format!(in alloc; "{folder}/{}", example.script)?;
-    let script = fs::read_to_string(rt, path.as_str())?;
-    let path = format!(in alloc; "{folder}/{}", example.output)?;
-    let wanted = fs::read_to_string(rt, path.as_str())?;
-    let (status, output) = run_script(alloc, example.words, script.as_str())?;
-    writeln!(
-        out,
-        "{line}: {}",
-        outcome_of(status, output.as_str(), wanted.as_str())
-    )?;
+    let script = read_file(rt, folder, example.script)?;
+    let wanted = read_file(rt, folder, example.output)?;
+    let (status, output) = run_script(rt.alloc(), example.words, script.as_str())?;
+    let outcome = outcome_of(status, output.as_str(), wanted.as_str());
+    writeln!(out, "{line}: {outcome}")?;
+    Ok(())
+}
+
+/// Runs the examples of a list.
+fn run_list<W: Write + Drop>(
+    rt: &HostRuntime,
+    folder: &str,
+    list: &str,
+    out: &mut W,
+) -> Result<(), RunFault> {
+    for line in list.lines() {
+        if let Err(fault) = run_example(rt, folder, line, out) {
+            let line = String::from_str(rt.alloc(), line)?;
+            return Err(RunFault::Example { line, fault });
+        }
+    }
     Ok(())
 }
 
@@ -45,12 +61,7 @@ fn main(rt: HostRuntime) -> Result<(), RunFault> {
     let folder = env::args(&rt)?.skip(1).next().ok_or(RunFault::NoFolder)?;
     let list = io::read_to_string(alloc, rt.reader())?;
     let mut out = BufWriter::new(alloc, io::writer(&rt))?;
-    for line in list.as_str().lines() {
-        if let Err(fault) = run_example(&rt, folder.as_str(), line, &mut out) {
-            let line = String::from_str(alloc, line)?;
-            return Err(RunFault::Example { line, fault });
-        }
-    }
+    run_list(&rt, folder.as_str(), list.as_str(), &mut out)?;
     out.flush()?;
     Ok(())
 }

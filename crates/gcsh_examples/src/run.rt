@@ -2,7 +2,6 @@
 
 use crate::fault::ExampleFault;
 use gcsh_top::{MemSink, MemSource, Status, Stores, gcsh_top};
-use session_table::words_of;
 use std::alloc::{AllocError, Global};
 use std::fmt::{Display, Formatter};
 use std::{fmt, str};
@@ -49,28 +48,26 @@ pub(crate) fn run_script(
     words: &str,
     script: &str,
 ) -> Result<(u8, String), ExampleFault> {
-    let words = words_of(alloc, words)?;
-    let input = script.as_bytes().to_vec(alloc)?;
-    let mut source = MemSource::new(input, Vec::new(alloc));
+    let mut source = MemSource::new(script.as_bytes().to_vec(alloc)?, Vec::new(alloc));
     let mut sink = MemSink::new(alloc, ROOM, Vec::new(alloc))?;
-    let status = run_top(alloc, words.as_slice(), &mut source, &mut sink)?;
-    Ok((status, text_of(alloc, sink.bytes())?))
+    let status = run_words(alloc, words, &mut source, &mut sink)?;
+    let output = str::from_utf8(sink.bytes())?;
+    Ok((status, String::from_str(alloc, output)?))
 }
 
-/// Runs the top call on new stores, and answers its status.
-fn run_top(
+/// Runs the top call with the words of a text, and answers its status.
+fn run_words(
     alloc: Global,
-    words: &[String],
+    text: &str,
     source: &mut MemSource,
     sink: &mut MemSink,
 ) -> Result<u8, AllocError> {
+    let mut words = Vec::new(alloc);
+    for word in text.split_whitespace() {
+        words.push(String::from_str(alloc, word)?)?;
+    }
     let mut stores = Stores::new(alloc)?;
-    Ok(gcsh_top(alloc, words, source, sink, &mut stores))
-}
-
-/// The text that bytes are.
-fn text_of(alloc: Global, bytes: &[u8]) -> Result<String, ExampleFault> {
-    Ok(String::from_str(alloc, str::from_utf8(bytes)?)?)
+    Ok(gcsh_top(alloc, words.as_slice(), source, sink, &mut stores))
 }
 
 /// How an example ended that had this status and gave this output.

@@ -1,36 +1,53 @@
-//! Runs scripts, and writes what they give.
+//! Runs the top call on scripts, with ends in memory, and writes what they give.
 
-use crate::fault::SessionFault;
-use crate::setup::ProgramSetup;
-use gcsh_top::{MemSink, MemSource, Stores, gcsh_top};
-use session_table::words_of;
+use crate::fault::Result;
+use crate::header::{Header, words_of};
+use gcsh_top::{MemSink, MemSource, Sink, Source, Stores, gcsh_top};
 use std::alloc::{AllocError, Global};
+use std::io;
 use std::io::Write;
+
+/// The room of a sink for which the header says none, in bytes.
+const USUAL_ROOM: u32 = 1 << 16;
+
+/// Runs the top call with these words on new stores, and answers its status.
+pub(crate) fn run_top<S: Source, K: Sink>(
+    alloc: Global,
+    words: &str,
+    source: &mut S,
+    sink: &mut K,
+) -> Result<u8, AllocError> {
+    let words = words_of(alloc, words)?;
+    let mut stores = Stores::new(alloc)?;
+    Ok(gcsh_top(alloc, words.as_slice(), source, sink, &mut stores))
+}
+
+/// A source of a script, whose reads fail where the header says.
+fn source_of(alloc: Global, header: &Header<'_>, script: &str) -> Result<MemSource> {
+    let failing = header.numbers(alloc, "reads")?;
+    let input = script.as_bytes().to_vec(alloc)?;
+    Ok(MemSource::new(input, failing))
+}
+
+/// A sink with the room that the header says, whose writes fail where it says, 0 being the flush.
+fn sink_of(alloc: Global, header: &Header<'_>) -> Result<MemSink> {
+    let room = header.number("room")?.unwrap_or(USUAL_ROOM);
+    let failing = header.numbers(alloc, "writes")?;
+    Ok(MemSink::new(alloc, room as usize, failing)?)
+}
 
 /// Runs the top call on a script, and writes what its sink took and its status.
 pub(crate) fn run_program<W: Write + Drop>(
     alloc: Global,
-    setup: ProgramSetup<'_>,
+    header: &Header<'_>,
     script: &str,
     out: &mut W,
-) -> Result<(), SessionFault> {
-    let words = words_of(alloc, setup.words)?;
-    let input = script.as_bytes().to_vec(alloc)?;
-    let mut source = MemSource::new(input, setup.failing_reads);
-    let mut sink = MemSink::new(alloc, setup.room, setup.failing_writes)?;
-    let status = run_top(alloc, words.as_slice(), &mut source, &mut sink)?;
-    write_output(sink.bytes(), setup.is_folded, status, out)
-}
-
-/// Runs the top call on new stores, and answers its status.
-fn run_top(
-    alloc: Global,
-    words: &[String],
-    source: &mut MemSource,
-    sink: &mut MemSink,
-) -> Result<u8, AllocError> {
-    let mut stores = Stores::new(alloc)?;
-    Ok(gcsh_top(alloc, words, source, sink, &mut stores))
+) -> Result<()> {
+    let mut source = source_of(alloc, header, script)?;
+    let mut sink = sink_of(alloc, header)?;
+    let status = run_top(alloc, header.words, &mut source, &mut sink)?;
+    let is_folded = header.value("folded").is_some();
+    write_output(sink.bytes(), is_folded, status, out)
 }
 
 /// Writes what a sink took, and a status.
@@ -39,9 +56,9 @@ fn write_output<W: Write + Drop>(
     is_folded: bool,
     status: u8,
     out: &mut W,
-) -> Result<(), SessionFault> {
+) -> Result<()> {
     if is_folded {
-        write_folded(bytes, out)?;
+        write_folded(str::from_utf8(bytes)?, out)?;
     } else {
         out.write_all(bytes)?;
     }
@@ -52,9 +69,8 @@ fn write_output<W: Write + Drop>(
     Ok(())
 }
 
-/// Writes lines, those that stand several times in a row once, as `{N*LINE}`.
-fn write_folded<W: Write + Drop>(bytes: &[u8], out: &mut W) -> Result<(), SessionFault> {
-    let text = str::from_utf8(bytes)?;
+/// Writes the lines of a text, those that stand several times in a row once, as `{N*LINE}`.
+fn write_folded<W: Write + Drop>(text: &str, out: &mut W) -> io::Result<()> {
     let mut lines = text.lines();
     let Some(mut last) = lines.next() else {
         return Ok(());
@@ -73,11 +89,10 @@ fn write_folded<W: Write + Drop>(bytes: &[u8], out: &mut W) -> Result<(), Sessio
 }
 
 /// Writes a line that stands so many times in a row.
-fn write_times<W: Write + Drop>(line: &str, times: u32, out: &mut W) -> Result<(), SessionFault> {
+fn write_times<W: Write + Drop>(line: &str, times: u32, out: &mut W) -> io::Result<()> {
     if times == 1 {
-        writeln!(out, "{line}")?;
+        writeln!(out, "{line}")
     } else {
-        writeln!(out, "{{{times}*{line}}}")?;
+        writeln!(out, "{{{times}*{line}}}")
     }
-    Ok(())
 }

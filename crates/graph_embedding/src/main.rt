@@ -10,11 +10,14 @@ mod ring;
 mod runs;
 mod survival;
 
+ghost use Rattle.std.specs.Prelude.{◌≡◌};
+ghost use Rattle.gc_view.specs.Heaps.{detached};
+
 use crate::fault::GraphFault;
 use crate::runs::run_graph;
 use gc_copying::CopyingHeap;
 use gc_drc::DrcHeap;
-use gc_heap::NullHeap;
+use gc_heap::{GcHeap, NullHeap};
 use gc_store::{Engine, HeapConfig, Store, StoreId};
 use std::alloc::Global;
 use std::io;
@@ -23,53 +26,40 @@ use std::io::{BufWriter, Write};
 /// Pages that each heap begins with.
 const FIRST_PAGES: u32 = 1;
 
-/// A graph in a null heap.
-fn run_null<W: Write + Drop>(
+/// A graph in a store over that heap.
+fn run_over<H: GcHeap + Drop, W: Write + Drop>(
     alloc: Global,
     id: StoreId,
+    heap: H,
     config: HeapConfig,
     out: &mut W,
-) -> Result<(), GraphFault> {
+) -> Result<(), GraphFault>
+    requires sound { H.sound heap }
+    requires empty { H.seen heap ≡ detached }
+{
+    let mut store = Store::new(alloc, id, heap, config)?;
+    run_graph(&mut store, out)
+}
+
+/// A graph in a store over a heap of each kind.
+fn run_graphs<W: Write + Drop>(alloc: Global, out: &mut W) -> Result<(), GraphFault> {
+    let mut engine = Engine::new(1);
+    let config = HeapConfig::with_pages(FIRST_PAGES).ok_or(GraphFault::NoStore)?;
     writeln!(out, "== null")?;
-    let mut store = Store::new(alloc, id, NullHeap::new(alloc), config)?;
-    run_graph(&mut store, out)
-}
-
-/// A graph in a counting heap.
-fn run_counting<W: Write + Drop>(
-    alloc: Global,
-    id: StoreId,
-    config: HeapConfig,
-    out: &mut W,
-) -> Result<(), GraphFault> {
+    let id = engine.next_store_id().ok_or(GraphFault::NoStore)?;
+    run_over(alloc, id, NullHeap::new(alloc), config, out)?;
     writeln!(out, "== counting")?;
-    let mut store = Store::new(alloc, id, DrcHeap::new(alloc), config)?;
-    run_graph(&mut store, out)
-}
-
-/// A graph in a copying heap.
-fn run_copying<W: Write + Drop>(
-    alloc: Global,
-    id: StoreId,
-    config: HeapConfig,
-    out: &mut W,
-) -> Result<(), GraphFault> {
+    let id = engine.next_store_id().ok_or(GraphFault::NoStore)?;
+    run_over(alloc, id, DrcHeap::new(alloc), config, out)?;
     writeln!(out, "== copying")?;
-    let mut store = Store::new(alloc, id, CopyingHeap::new(alloc), config)?;
-    run_graph(&mut store, out)
+    let id = engine.next_store_id().ok_or(GraphFault::NoStore)?;
+    run_over(alloc, id, CopyingHeap::new(alloc), config, out)
 }
 
 fn main(rt: HostRuntime) -> Result<(), GraphFault> {
     let alloc = rt.alloc();
     let mut out = BufWriter::new(alloc, io::writer(&rt))?;
-    let mut engine = Engine::new(1);
-    let config = HeapConfig::with_pages(FIRST_PAGES).ok_or(GraphFault::NoStore)?;
-    let first = engine.next_store_id().ok_or(GraphFault::NoStore)?;
-    run_null(alloc, first, config, &mut out)?;
-    let second = engine.next_store_id().ok_or(GraphFault::NoStore)?;
-    run_counting(alloc, second, config, &mut out)?;
-    let third = engine.next_store_id().ok_or(GraphFault::NoStore)?;
-    run_copying(alloc, third, config, &mut out)?;
+    run_graphs(alloc, &mut out)?;
     out.flush()?;
     Ok(())
 }

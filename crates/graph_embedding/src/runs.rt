@@ -120,26 +120,54 @@ fn show_full<H: GcHeap, W: Write + Drop>(
     Ok(())
 }
 
+/// Walks a ring of one node, collects it, fills it up and cuts it, and writes what becomes of it.
+fn run_ring<H: GcHeap, W: Write + Drop>(
+    store: &mut Store<H, u64>,
+    limiter: &mut PageLimit,
+    first: &OwnedRooted<StructRef>,
+    out: &mut W,
+) -> Result<(), GraphFault> {
+    fill(store, limiter, first, 1, NODES)?;
+    show_ring(store, first, out)?;
+    show_collections(store, out)?;
+    show_full(store, limiter, first, NODES, out)?;
+    show_ring(store, first, out)?;
+    cut_ring(store, first)?;
+    show_ring(store, first, out)?;
+    show_collections(store, out)
+}
+
+/// Looks for an entry after collections, and writes what is found.
+fn show_found<H: GcHeap, W: Write + Drop>(
+    store: &mut Store<H, u64>,
+    limiter: &mut PageLimit,
+    out: &mut W,
+) -> Result<(), GraphFault> {
+    match find_after_collections(store, limiter, KEY, COLLECTIONS) {
+        Ok(key) => writeln!(out, "found: {key} after {COLLECTIONS} collections")?,
+        Err(GraphFault::Full(why)) => writeln!(out, "not added: {why}")?,
+        Err(fault) => return Err(fault),
+    }
+    Ok(())
+}
+
 /// Builds a ring, and writes what becomes of it.
+fn build_ring<H: GcHeap, W: Write + Drop>(
+    store: &mut Store<H, u64>,
+    limiter: &mut PageLimit,
+    out: &mut W,
+) -> Result<(), GraphFault> {
+    let first = start_ring(store, limiter)?;
+    run_ring(store, limiter, &first, out)
+}
+
+/// Builds a graph, and writes what becomes of it.
 pub(crate) fn run_graph<H: GcHeap, W: Write + Drop>(
     store: &mut Store<H, u64>,
     out: &mut W,
 ) -> Result<(), GraphFault> {
     let mut limiter = PageLimit::new(MOST_PAGES);
     declare_nodes(store)?;
-    let first = start_ring(store, &mut limiter)?;
-    fill(store, &mut limiter, &first, 1, NODES)?;
-    show_ring(store, &first, out)?;
-    show_collections(store, out)?;
-    show_full(store, &mut limiter, &first, NODES, out)?;
-    show_ring(store, &first, out)?;
-    cut_ring(store, &first)?;
-    show_ring(store, &first, out)?;
-    show_collections(store, out)?;
-    match find_after_collections(store, &mut limiter, KEY, COLLECTIONS) {
-        Ok(key) => writeln!(out, "found: {key} after {COLLECTIONS} collections")?,
-        Err(GraphFault::Full(why)) => writeln!(out, "not added: {why}")?,
-        Err(fault) => return Err(fault),
-    }
-    Ok(())
+    build_ring(store, &mut limiter, out)?;
+    show_found(store, &mut limiter, out)
 }

@@ -1,1 +1,2 @@
+pub mod ListShelving
 pub mod Shelving

@@ -1,1 +1,2 @@
+pub mod ListShelves
 pub mod Shelves

@@ -10,7 +10,7 @@ use Rattle.gc_lists.specs.declared.kit.Kit.{Kit}
 use Rattle.gc_lists.specs.Kits.{IsKit}
 use Rattle.gc_maps.specs.Maps.{IntMap, StandsForMapOf}
 
--- A kit and versions stand in one table that the store holds.
+-- A kit and versions of maps stand in one table that the store holds.
 pub record Shelf (layouts : Layouts) (s : StoreView ℕ) (kit : Kit) (versions : List (Option GcRootIndex)) : Type 0 where
   pub table : Table ℕ
   pub holds : HoldsTable layouts s table

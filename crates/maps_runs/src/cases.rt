@@ -6,8 +6,8 @@ ghost use Rattle.gc_lists.specs.declared.kit.Kit.{Kit};
 ghost use Rattle.maps_runs.specs.Shelves.{Shelf};
 
 use crate::fault::RunFault;
-use crate::foreign::answer_name;
-use crate::shelf::{all, collect, cut, find, leave_roots, new_kit, put, put_in_vain};
+use crate::kits::{answer_name, collect, new_kit};
+use crate::shelf::{all, cut, find, leave_roots, put, put_in_vain};
 use gc_heap::GcHeap;
 use gc_lists::Kit;
 use gc_maps::HeapMap;

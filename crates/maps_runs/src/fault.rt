@@ -1,22 +1,17 @@
-//! Why a run of maps ends early.
+//! Why a run of lists or maps ends early.
 
 use gc_lists::ListFault;
-use gc_types::TypeFault;
 use std::alloc::AllocError;
 use std::io;
 use thiserror::Error;
 
-/// Why a run of maps ends early.
+/// Why a run of lists or maps ends early.
 #[derive(Debug, Drop, Error)]
 pub(crate) enum RunFault {
-    #[error("there is no such configuration")]
+    #[error("there is no such configuration, kit or version")]
     Missing,
-    #[error("a map differs from the one beside it")]
-    Differs,
-    #[error("a map is refused")]
+    #[error("a list or a map is refused")]
     Refused(ListFault),
-    #[error(transparent)]
-    Types(#[from] TypeFault),
     #[error(transparent)]
     Write(#[from] io::Error),
     #[error(transparent)]

@@ -7,24 +7,14 @@ ghost use Rattle.maps_runs.specs.Shelves.{Shelf};
 
 use crate::cases::show;
 use crate::fault::RunFault;
-use crate::shelf::{find_foreign, new_kit, put};
+use crate::kits::{answer_name, new_kit};
+use crate::shelf::{find_foreign, put};
 use gc_heap::GcHeap;
-use gc_lists::{Kit, ListFault};
+use gc_lists::Kit;
 use gc_maps::HeapMap;
 use gc_store::laws::stores_hold_tables;
 use gc_store::{PageLimit, Store};
 use std::alloc::Global;
-
-/// The name of an answer.
-pub(crate) fn answer_name<T>(answer: &Result<T, ListFault>) -> &'static str {
-    match answer {
-        Ok(_) => "made",
-        Err(ListFault::WrongStore) => "WrongStore",
-        Err(ListFault::RootsFull) => "RootsFull",
-        Err(ListFault::HeapOutOfMemory(_)) => "HeapOutOfMemory",
-        Err(ListFault::Memory) => "Memory",
-    }
-}
 
 /// What the calls that take a kit answer with that of another store; then what the map has that they were to change.
 fn run_foreign_kit<H: GcHeap>(

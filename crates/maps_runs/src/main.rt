@@ -1,4 +1,4 @@
-//! Maps in stores over a heap of each kind, with what is answered printed.
+//! Lists and maps in stores over a heap of each kind, with what is answered printed.
 //!
 //! What must be printed, in `stdout`, was worked out by hand from the rules in docs/.
 #![tactic(auto)]
@@ -6,6 +6,9 @@
 mod cases;
 mod fault;
 mod foreign;
+mod kits;
+mod list_shelf;
+mod lists;
 mod random;
 mod shelf;
 
@@ -39,8 +42,23 @@ fn config_of(max_owned: u32) -> Result<HeapConfig, RunFault> {
     HeapConfig::new(1, 2048, max_owned, None).ok_or(RunFault::Missing)
 }
 
-/// Fills maps in a new store over that heap.
-fn keys_over<H: GcHeap + Drop>(
+/// Makes lists and fills maps in a store.
+fn run_calls<H: GcHeap>(
+    rt: &impl Print,
+    alloc: Global,
+    store: &mut Store<H, u64>,
+    limiter: &mut PageLimit,
+) -> Result<(), RunFault> {
+    lists::run_two(rt, alloc, store, limiter)?;
+    lists::run_kept(rt, alloc, store, limiter)?;
+    run_keys(rt, alloc, store, limiter)?;
+    run_removed(rt, alloc, store, limiter)?;
+    run_kept(rt, store, limiter)?;
+    run_scarce(rt, alloc, store, limiter)
+}
+
+/// Makes lists and fills maps in a new store over that heap.
+fn calls_over<H: GcHeap + Drop>(
     rt: &impl Print,
     alloc: Global,
     heap: H,
@@ -50,11 +68,7 @@ fn keys_over<H: GcHeap + Drop>(
     requires empty { H.seen heap ≡ detached }
 {
     let mut store = Store::new(alloc, STORE, heap, config)?;
-    let mut limiter = PageLimit::new(4);
-    run_keys(rt, alloc, &mut store, &mut limiter)?;
-    run_removed(rt, alloc, &mut store, &mut limiter)?;
-    run_kept(rt, &mut store, &mut limiter)?;
-    run_scarce(rt, alloc, &mut store, &mut limiter)
+    run_calls(rt, alloc, &mut store, &mut PageLimit::new(4))
 }
 
 /// Changes a map many times in a new store over that heap.
@@ -71,7 +85,17 @@ fn random_over<H: GcHeap + Drop>(
     run_random(rt, &mut store, &mut PageLimit::new(4096))
 }
 
-/// Has a key refused in a new store that may have so many pages.
+/// Has a number in front of a list and a key refused in a store that may have no more pages.
+fn run_both_refused<H: GcHeap>(
+    rt: &impl Print,
+    store: &mut Store<H, u64>,
+    limiter: &mut PageLimit,
+) -> Result<(), RunFault> {
+    lists::run_refused(rt, store, limiter)?;
+    run_refused(rt, store, limiter)
+}
+
+/// Has both refused in a new store that may have so many pages.
 fn refused_with(
     rt: &impl Print,
     alloc: Global,
@@ -79,7 +103,14 @@ fn refused_with(
     pages: u32,
 ) -> Result<(), RunFault> {
     let mut store = Store::new(alloc, STORE, NullHeap::new(alloc), config)?;
-    run_refused(rt, &mut store, &mut PageLimit::new(pages))
+    run_both_refused(rt, &mut store, &mut PageLimit::new(pages))
+}
+
+/// Has the kit and a list of one store refused in another.
+fn foreign_lists(rt: &impl Print, alloc: Global, config: HeapConfig) -> Result<(), RunFault> {
+    let mut store = Store::new(alloc, STORE, NullHeap::new(alloc), config)?;
+    let mut other = Store::new(alloc, OTHER, NullHeap::new(alloc), config)?;
+    lists::run_foreign(rt, &mut store, &mut other, &mut PageLimit::new(4))
 }
 
 /// Has the kit and a map of one store refused in another, over such heaps.
@@ -102,13 +133,13 @@ fn foreign_over<H: GcHeap + Drop>(
 
 fn main(rt: HostRuntime) -> Result<(), RunFault> {
     let alloc = rt.alloc();
-    let ample = config_of(32)?;
+    let ample = config_of(64)?;
     println!(rt; "== null")?;
-    keys_over(&rt, alloc, NullHeap::new(alloc), ample)?;
+    calls_over(&rt, alloc, NullHeap::new(alloc), ample)?;
     println!(rt; "== counting")?;
-    keys_over(&rt, alloc, DrcHeap::new(alloc), ample)?;
+    calls_over(&rt, alloc, DrcHeap::new(alloc), ample)?;
     println!(rt; "== copying")?;
-    keys_over(&rt, alloc, CopyingHeap::new(alloc), ample)?;
+    calls_over(&rt, alloc, CopyingHeap::new(alloc), ample)?;
     println!(rt; "== random")?;
     let roomy = config_of(CHANGES)?;
     random_over(&rt, alloc, NullHeap::new(alloc), roomy)?;
@@ -118,6 +149,7 @@ fn main(rt: HostRuntime) -> Result<(), RunFault> {
     refused_with(&rt, alloc, config_of(0)?, 4)?;
     refused_with(&rt, alloc, ample, 0)?;
     println!(rt; "== foreign")?;
+    foreign_lists(&rt, alloc, ample)?;
     foreign_over(
         &rt,
         alloc,

@@ -5,7 +5,8 @@ ghost use Rattle.gc_lists.specs.declared.kit.Kit.{Kit};
 ghost use Rattle.maps_runs.specs.Shelves.{Shelf};
 
 use crate::fault::RunFault;
-use crate::shelf::{collect, cut, find, new_kit, put};
+use crate::kits::{collect, new_kit};
+use crate::shelf::{cut, find, put};
 use gc_heap::GcHeap;
 use gc_lists::{Kit, ListFault};
 use gc_maps::HeapMap;

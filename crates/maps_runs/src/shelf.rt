@@ -1,11 +1,11 @@
 //! Calls on maps that leave all maps of a shelf standing.
 
-ghost use Rattle.std.specs.Prelude.{false, ◌≡◌, ◌∷◌, ◌<◌, [], List, Option, IfOk, MatchResult};
+ghost use Rattle.std.specs.Prelude.{false, true, ◌≡◌, ◌∷◌, ◌<◌, [], List, Option, IfOk, MatchResult};
 ghost use Rattle.gc_store.specs.Stores.{IsSameStore};
 ghost use Rattle.gc_store.specs.declared.root.GcRootIndex.{GcRootIndex};
 ghost use Rattle.gc_lists.specs.declared.kit.Kit.{Kit};
 ghost use Rattle.gc_lists.specs.Versions.{is_version_of};
-ghost use Rattle.maps_runs.specs.Shelves.{IsRootedIn, Shelf, id_in};
+ghost use Rattle.maps_runs.specs.Shelves.{IsRootedIn, Shelf};
 
 use crate::fault::RunFault;
 use gc_heap::GcHeap;
@@ -13,24 +13,10 @@ use gc_lists::{Kit, ListFault};
 use gc_maps::HeapMap;
 use gc_refs::I31;
 use gc_steps::Steps;
-use gc_store::laws::stores_hold_tables;
 use gc_store::{PageLimit, Store};
 use std::alloc::Global;
 use std::marker::Brand;
 use std::sync::ledger::{Blank, Ledger};
-
-/// The kit of a store.
-pub(crate) fn new_kit<H: GcHeap>(store: &mut Store<H, u64>) -> Result<Kit, RunFault>
-    ensures shelf { IfOk result (λ kit. Shelf H.KIND store.new kit []) }
-    ensures own { IfOk result (λ kit. kit.store_id ≡ id_in store.new) }
-    ensures same { IsSameStore store.old store.new }
-{
-    stores_hold_tables(store);
-    match Kit::new(store) {
-        Ok(kit) => Ok(kit),
-        Err(fault) => Err(RunFault::Types(fault)),
-    }
-}
 
 /// A map with that value at the key.
 pub(crate) fn put<H: GcHeap>(
@@ -99,13 +85,6 @@ pub(crate) fn cut<H: GcHeap>(
     map.remove(kit, store, limiter, key)
 }
 
-/// Collects the heap's garbage.
-pub(crate) fn collect<H: GcHeap>(store: &mut Store<H, u64>)
-    ensures { (kit : Kit) (vs : List (Option GcRootIndex)) → Shelf H.KIND store.old kit vs → Shelf H.KIND store.new kit vs }
-{
-    store.gc();
-}
-
 /// Pushes scoped roots until so many more may be pushed.
 pub(crate) fn leave_roots<H: GcHeap>(store: &mut Store<H, u64>, left: u64) -> Result<(), RunFault>
     ensures { IfOk result (λ done. (kit : Kit) (vs : List (Option GcRootIndex)) → Shelf H.KIND store.old kit vs → Shelf H.KIND store.new kit vs) }
@@ -131,23 +110,6 @@ pub(crate) fn find<H: GcHeap>(
     find_by::<Brand, H>(store, map, key, Blank::new(1))
 }
 
-fn find_by<L: Ledger, H: GcHeap>(
-    store: &mut Store<H, u64>,
-    map: &HeapMap,
-    key: i64,
-    blank: Blank,
-) -> Result<Option<i64>, ListFault>
-    requires name { blank.name ≡ L.name }
-    requires parts { blank.parts ≡ L.parts }
-    requires some { 0 < blank.parts }
-    requires shelf { (kit : Kit) × Shelf H.KIND store.old kit (map.now.root ∷ []) }
-    ensures { (kit : Kit) (vs : List (Option GcRootIndex)) → Shelf H.KIND store.old kit (map.now.root ∷ vs)
-        → Shelf H.KIND store.new kit (map.now.root ∷ vs) }
-{
-    let mut steps = Steps::<L>::new(blank);
-    map.get(store, key, &mut steps)
-}
-
 /// The value of a key in another store's map.
 pub(crate) fn find_foreign<H: GcHeap>(
     store: &mut Store<H, u64>,
@@ -157,10 +119,10 @@ pub(crate) fn find_foreign<H: GcHeap>(
     requires { is_version_of store.old map.now.root ≡ false }
     ensures { store.new ≡ store.old }
 {
-    find_foreign_by::<Brand, H>(store, map, key, Blank::new(1))
+    find_by::<Brand, H>(store, map, key, Blank::new(1))
 }
 
-fn find_foreign_by<L: Ledger, H: GcHeap>(
+fn find_by<L: Ledger, H: GcHeap>(
     store: &mut Store<H, u64>,
     map: &HeapMap,
     key: i64,
@@ -169,8 +131,10 @@ fn find_foreign_by<L: Ledger, H: GcHeap>(
     requires name { blank.name ≡ L.name }
     requires parts { blank.parts ≡ L.parts }
     requires some { 0 < blank.parts }
-    requires foreign { is_version_of store.old map.now.root ≡ false }
-    ensures { store.new ≡ store.old }
+    requires shelf { is_version_of store.old map.now.root ≡ true → (kit : Kit) × Shelf H.KIND store.old kit (map.now.root ∷ []) }
+    ensures stays { (kit : Kit) (vs : List (Option GcRootIndex)) → Shelf H.KIND store.old kit (map.now.root ∷ vs)
+        → Shelf H.KIND store.new kit (map.now.root ∷ vs) }
+    ensures foreign { is_version_of store.old map.now.root ≡ false → store.new ≡ store.old }
 {
     let mut steps = Steps::<L>::new(blank);
     map.get(store, key, &mut steps)

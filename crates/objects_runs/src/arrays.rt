@@ -1,18 +1,14 @@
 //! Arrays: made in each way, read, written, copied and refused.
 
-use crate::fault::RunFault;
-use crate::setup::{BYTES, CONSTANTS, ample, arrays_of, as_array};
+use crate::setup::{BYTES, CONSTANTS, ample, arrays_of, as_array, filled, listed, new_bytes};
 use crate::show::{show_made, show_read, show_type, show_write};
 use gc_heap::GcHeap;
 use gc_objects::{ArrayRef, Val};
 use gc_store::{Rooted, Store};
+use run_faults::Result;
 
 /// Asks for an array's length and type.
-fn ask<H: GcHeap>(
-    rt: &impl Print,
-    store: &Store<H, u64>,
-    handle: Rooted<ArrayRef>,
-) -> Result<(), RunFault> {
+fn ask<H: GcHeap>(rt: &impl Print, store: &Store<H, u64>, handle: Rooted<ArrayRef>) -> Result<()> {
     let handle = as_array(store, handle)?;
     let len = ArrayRef::len(store, &handle)?;
     println!(rt; "{len} elements")?;
@@ -27,7 +23,7 @@ pub(crate) fn read<H: GcHeap>(
     store: &mut Store<H, u64>,
     handle: Rooted<ArrayRef>,
     index: u32,
-) -> Result<(), RunFault> {
+) -> Result<()> {
     let handle = as_array(store, handle)?;
     let answer = ArrayRef::get(store, &handle, index);
     show_read(rt, "element", index, answer)
@@ -40,7 +36,7 @@ pub(crate) fn write<H: GcHeap>(
     handle: Rooted<ArrayRef>,
     index: u32,
     value: Val,
-) -> Result<(), RunFault> {
+) -> Result<()> {
     let handle = as_array(store, handle)?;
     let answer = ArrayRef::set(store, &handle, index, value);
     show_write(rt, "element", index, answer)
@@ -52,7 +48,7 @@ fn copy<H: GcHeap>(
     store: &Store<H, u64>,
     handle: Rooted<ArrayRef>,
     bytes: &mut [u8],
-) -> Result<(), RunFault> {
+) -> Result<()> {
     let handle = as_array(store, handle)?;
     match ArrayRef::copy_to_i8_slice(store, &handle, bytes) {
         Ok(()) => println!(rt; "bytes {bytes:?}")?,
@@ -62,12 +58,8 @@ fn copy<H: GcHeap>(
 }
 
 /// Makes an array of bytes, reads, writes and copies them, and goes past its end.
-pub(crate) fn run_bytes<H: GcHeap>(
-    rt: &impl Print,
-    store: &mut Store<H, u64>,
-) -> Result<(), RunFault> {
-    let allocator = arrays_of(store, BYTES)?;
-    let handle = ArrayRef::new_from_i8_slice(store, &mut ample(), &allocator, &[0, 255, 127])?;
+pub(crate) fn run_bytes<H: GcHeap>(rt: &impl Print, store: &mut Store<H, u64>) -> Result<()> {
+    let handle = new_bytes(store, &[0, 255, 127])?;
     ask(rt, store, handle)?;
     read(rt, store, handle, 1)?;
     read(rt, store, handle, 3)?;
@@ -79,13 +71,8 @@ pub(crate) fn run_bytes<H: GcHeap>(
 }
 
 /// Fills an array with references, which are constant.
-fn run_filled<H: GcHeap>(
-    rt: &impl Print,
-    store: &mut Store<H, u64>,
-    value: &Val,
-) -> Result<(), RunFault> {
-    let allocator = arrays_of(store, CONSTANTS)?;
-    let handle = ArrayRef::new(store, &mut ample(), &allocator, value, 1000)?;
+fn run_filled<H: GcHeap>(rt: &impl Print, store: &mut Store<H, u64>, value: &Val) -> Result<()> {
+    let handle = filled(store, CONSTANTS, value, 1000)?;
     ask(rt, store, handle)?;
     read(rt, store, handle, 999)?;
     write(rt, store, handle, 1000, Val::I32(1))?;
@@ -93,14 +80,8 @@ fn run_filled<H: GcHeap>(
 }
 
 /// Makes an array of listed references.
-fn run_listed<H: GcHeap>(
-    rt: &impl Print,
-    store: &mut Store<H, u64>,
-    value: &Val,
-) -> Result<(), RunFault> {
-    let allocator = arrays_of(store, CONSTANTS)?;
-    let values = [*value, Val::AnyRef(None)];
-    let handle = ArrayRef::new_fixed(store, &mut ample(), &allocator, &values)?;
+fn run_listed<H: GcHeap>(rt: &impl Print, store: &mut Store<H, u64>, value: &Val) -> Result<()> {
+    let handle = listed(store, CONSTANTS, &[*value, Val::AnyRef(None)])?;
     ask(rt, store, handle)?;
     read(rt, store, handle, 0)?;
     read(rt, store, handle, 1)
@@ -111,7 +92,7 @@ pub(crate) fn run_references<H: GcHeap>(
     rt: &impl Print,
     store: &mut Store<H, u64>,
     value: &Val,
-) -> Result<(), RunFault> {
+) -> Result<()> {
     run_filled(rt, store, value)?;
     run_listed(rt, store, value)
 }
@@ -123,7 +104,7 @@ fn fill<H: GcHeap>(
     name: &str,
     ty: u32,
     count: u32,
-) -> Result<(), RunFault> {
+) -> Result<()> {
     let allocator = arrays_of(store, ty)?;
     let answer = ArrayRef::new(store, &mut ample(), &allocator, &Val::I32(0), count);
     show_made(rt, name, answer)
@@ -134,7 +115,7 @@ fn fill<H: GcHeap>(
 pub(crate) fn run_refused_arrays<H: GcHeap>(
     rt: &impl Print,
     store: &mut Store<H, u64>,
-) -> Result<(), RunFault> {
+) -> Result<()> {
     fill(rt, store, "no numbers", CONSTANTS, 0)?;
     fill(rt, store, "a number", CONSTANTS, 1)?;
     fill(rt, store, "too many bytes", BYTES, u32::MAX)?;

@@ -1,16 +1,16 @@
 //! Continuations among values: stored, read and overwritten, over a collection too, and refused where they don't fit.
 
-use crate::fault::RunFault;
 use crate::setup::{
-    CONT_HOLDER, CONT_TYPE, CONTINUATIONS, NO_CONT_HOLDER, NO_CONT_TYPE, ample, arrays_of,
-    structs_of,
+    CONT_HOLDER, CONT_TYPE, CONTINUATIONS, NO_CONT_HOLDER, NO_CONT_TYPE, ample, filled, listed,
+    new_struct_of, structs_of,
 };
 use crate::show::show_made;
-use crate::structs::{new_holder, write_and_read};
+use crate::structs::write_and_read;
 use crate::{arrays, structs};
 use gc_heap::GcHeap;
-use gc_objects::{ArrayRef, StructRef, Val};
+use gc_objects::{StructRef, Val};
 use gc_store::Store;
+use run_faults::Result;
 
 /// The value that is no continuation.
 const NONE: Val = Val::ContRef(None);
@@ -19,7 +19,7 @@ const NONE: Val = Val::ContRef(None);
 const SEVEN: Val = Val::ContRef(Some(7));
 
 /// Shows which values fit a type of continuations, and that of none alone.
-fn show_fits<H: GcHeap>(rt: &impl Print, store: &Store<H, u64>) -> Result<(), RunFault> {
+fn show_fits<H: GcHeap>(rt: &impl Print, store: &Store<H, u64>) -> Result<()> {
     let (ty, none_type) = (CONT_TYPE, NO_CONT_TYPE);
     let (present, none) = (SEVEN.matches_ty(store, &ty)?, NONE.matches_ty(store, &ty)?);
     println!(rt; "fits: {present}, none: {none}")?;
@@ -40,7 +40,7 @@ fn make_of_none<H: GcHeap>(
     store: &mut Store<H, u64>,
     name: &str,
     value: Val,
-) -> Result<(), RunFault> {
+) -> Result<()> {
     let allocator = structs_of(store, NO_CONT_HOLDER)?;
     let answer = StructRef::new(store, &mut ample(), &allocator, &[value]);
     show_made(rt, name, answer)
@@ -48,12 +48,9 @@ fn make_of_none<H: GcHeap>(
 
 /// A field without a continuation gets one, which a collection leaves, then the same again, another one, and none; a function that
 /// is none and null fit no such field.
-pub(crate) fn run_cont_fields<H: GcHeap>(
-    rt: &impl Print,
-    store: &mut Store<H, u64>,
-) -> Result<(), RunFault> {
+pub(crate) fn run_cont_fields<H: GcHeap>(rt: &impl Print, store: &mut Store<H, u64>) -> Result<()> {
     show_fits(rt, store)?;
-    let handle = new_holder(store, CONT_HOLDER, &NONE)?;
+    let handle = new_struct_of(store, CONT_HOLDER, &[NONE])?;
     structs::read(rt, store, handle, 0)?;
     write_and_read(rt, store, handle, &SEVEN)?;
     store.gc();
@@ -71,9 +68,8 @@ pub(crate) fn run_cont_fields<H: GcHeap>(
 pub(crate) fn run_cont_elements<H: GcHeap>(
     rt: &impl Print,
     store: &mut Store<H, u64>,
-) -> Result<(), RunFault> {
-    let allocator = arrays_of(store, CONTINUATIONS)?;
-    let handle = ArrayRef::new(store, &mut ample(), &allocator, &SEVEN, 2)?;
+) -> Result<()> {
+    let handle = filled(store, CONTINUATIONS, &SEVEN, 2)?;
     store.gc();
     for index in 0..3 {
         arrays::read(rt, store, handle, index)?;
@@ -82,9 +78,7 @@ pub(crate) fn run_cont_elements<H: GcHeap>(
     for index in 0..2 {
         arrays::read(rt, store, handle, index)?;
     }
-    let allocator = arrays_of(store, CONTINUATIONS)?;
-    let values = [Val::ContRef(Some(8)), NONE, SEVEN];
-    let handle = ArrayRef::new_fixed(store, &mut ample(), &allocator, &values)?;
+    let handle = listed(store, CONTINUATIONS, &[Val::ContRef(Some(8)), NONE, SEVEN])?;
     for index in 0..3 {
         arrays::read(rt, store, handle, index)?;
     }

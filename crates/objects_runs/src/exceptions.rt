@@ -4,13 +4,13 @@ ghost use Rattle.std.specs.Prelude.{ℕ, IfOk};
 ghost use Rattle.gc_types.specs.declared.kind.VMGcKind.{VMGcKind};
 ghost use Rattle.gc_store.specs.Kinds.{NamesKind};
 
-use crate::fault::RunFault;
 use crate::setup::{ample, exceptions};
 use crate::show::{show_read, show_type};
 use gc_heap::GcHeap;
 use gc_objects::{ExnRef, StoreExn, ThrowFault, Val};
 use gc_store::{Rooted, Store};
 use gc_types::Tag;
+use run_faults::{Result, RunFault};
 
 /// The tag of the exceptions.
 pub(crate) const TAG: Tag = Tag {
@@ -19,15 +19,18 @@ pub(crate) const TAG: Tag = Tag {
 };
 
 /// A new exception.
-fn new_exception<H: GcHeap>(store: &mut Store<H, u64>) -> Result<Rooted<ExnRef>, RunFault>
+fn new_exception<H: GcHeap>(store: &mut Store<H, u64>) -> Result<Rooted<ExnRef>>
     ensures { IfOk result (λ handle. NamesKind ℕ H.KIND store.new VMGcKind.ExnRef handle.index) }
 {
     let allocator = exceptions(store)?;
-    Ok(ExnRef::new(store, &mut ample(), &allocator, TAG, &[Val::I32(5)])?)
+    match ExnRef::new(store, &mut ample(), &allocator, TAG, &[Val::I32(5)]) {
+        Ok(handle) => Ok(handle),
+        Err(_) => return Err(RunFault::NotMade),
+    }
 }
 
 /// Asks for an exception's tag and type.
-fn ask<H: GcHeap>(rt: &impl Print, store: &mut Store<H, u64>) -> Result<(), RunFault> {
+fn ask<H: GcHeap>(rt: &impl Print, store: &mut Store<H, u64>) -> Result<()> {
     let handle = new_exception(store)?;
     let tag = ExnRef::tag(store, &handle)?;
     println!(rt; "tag {} {}", tag.instance, tag.index)?;
@@ -37,14 +40,14 @@ fn ask<H: GcHeap>(rt: &impl Print, store: &mut Store<H, u64>) -> Result<(), RunF
 }
 
 /// Reads a field of an exception.
-fn read<H: GcHeap>(rt: &impl Print, store: &mut Store<H, u64>, index: u32) -> Result<(), RunFault> {
+fn read<H: GcHeap>(rt: &impl Print, store: &mut Store<H, u64>, index: u32) -> Result<()> {
     let handle = new_exception(store)?;
     let answer = ExnRef::field(store, &handle, index as usize);
     show_read(rt, "field", index, answer)
 }
 
 /// Shows whether an exception was pending, which is none any more.
-fn take<H: GcHeap>(rt: &impl Print, store: &mut Store<H, u64>) -> Result<(), RunFault> {
+fn take<H: GcHeap>(rt: &impl Print, store: &mut Store<H, u64>) -> Result<()> {
     match store.take_pending_exception()? {
         Some(_) => println!(rt; "an exception is taken")?,
         None => println!(rt; "nothing is pending")?,
@@ -53,7 +56,7 @@ fn take<H: GcHeap>(rt: &impl Print, store: &mut Store<H, u64>) -> Result<(), Run
 }
 
 /// Throws an exception, and takes it once.
-fn throw<H: GcHeap>(rt: &impl Print, store: &mut Store<H, u64>) -> Result<(), RunFault> {
+fn throw<H: GcHeap>(rt: &impl Print, store: &mut Store<H, u64>) -> Result<()> {
     let handle = new_exception(store)?;
     let thrown: Result<u64, ThrowFault> = store.throw(handle);
     match thrown {
@@ -65,10 +68,7 @@ fn throw<H: GcHeap>(rt: &impl Print, store: &mut Store<H, u64>) -> Result<(), Ru
 }
 
 /// Makes exceptions, asks for their tag and type, reads their fields, and throws one.
-pub(crate) fn run_exceptions<H: GcHeap>(
-    rt: &impl Print,
-    store: &mut Store<H, u64>,
-) -> Result<(), RunFault> {
+pub(crate) fn run_exceptions<H: GcHeap>(rt: &impl Print, store: &mut Store<H, u64>) -> Result<()> {
     ask(rt, store)?;
     read(rt, store, 0)?;
     read(rt, store, 1)?;

@@ -1,25 +1,26 @@
 //! Functions among values: stored, read and overwritten, and refused where they don't fit.
 
-use crate::fault::RunFault;
 use crate::setup::{
-    FUNCTION, FUNCTIONS, HOLDER, OTHER_FUNCTION, ample, arrays_of, function_type, structs_of,
+    FUNCTION, FUNCTIONS, HOLDER, OTHER_FUNCTION, ample, filled, function_type, listed,
+    new_struct_of, structs_of,
 };
 use crate::show::show_made;
-use crate::structs::{new_holder, write_and_read};
+use crate::structs::write_and_read;
 use crate::{arrays, structs};
 use gc_heap::GcHeap;
-use gc_objects::{ArrayRef, StructRef, Val};
+use gc_objects::{StructRef, Val};
 use gc_store::Store;
 use gc_types::{Func, VMSharedTypeIndex};
+use run_faults::{Result, RunFault};
 
 /// The function of that number and type.
-fn function(number: u32, ty: u32) -> Result<Val, RunFault> {
-    let func = Func::new(number, VMSharedTypeIndex::new(ty)).ok_or(RunFault::Missing)?;
+fn function(number: u32, ty: u32) -> Result<Val> {
+    let func = Func::new(number, VMSharedTypeIndex::new(ty)).ok_or(RunFault::NoFunction)?;
     Ok(Val::FuncRef(Some(func)))
 }
 
 /// Shows whether functions fit a type of functions.
-fn show_fits<H: GcHeap>(rt: &impl Print, store: &Store<H, u64>) -> Result<(), RunFault> {
+fn show_fits<H: GcHeap>(rt: &impl Print, store: &Store<H, u64>) -> Result<()> {
     let ty = function_type();
     let own = function(7, FUNCTION)?.matches_ty(store, &ty)?;
     let none = Val::FuncRef(None).matches_ty(store, &ty)?;
@@ -29,12 +30,9 @@ fn show_fits<H: GcHeap>(rt: &impl Print, store: &Store<H, u64>) -> Result<(), Ru
 }
 
 /// A function in a field is overwritten by another one, and by none; one of another type fits no field, and no reference does.
-pub(crate) fn run_fields<H: GcHeap>(
-    rt: &impl Print,
-    store: &mut Store<H, u64>,
-) -> Result<(), RunFault> {
+pub(crate) fn run_fields<H: GcHeap>(rt: &impl Print, store: &mut Store<H, u64>) -> Result<()> {
     show_fits(rt, store)?;
-    let handle = new_holder(store, HOLDER, &function(7, FUNCTION)?)?;
+    let handle = new_struct_of(store, HOLDER, &[function(7, FUNCTION)?])?;
     structs::read(rt, store, handle, 0)?;
     write_and_read(rt, store, handle, &function(8, FUNCTION)?)?;
     write_and_read(rt, store, handle, &Val::FuncRef(None))?;
@@ -47,24 +45,19 @@ pub(crate) fn run_fields<H: GcHeap>(
 }
 
 /// An array of functions, which a collection leaves; and one of none.
-pub(crate) fn run_elements<H: GcHeap>(
-    rt: &impl Print,
-    store: &mut Store<H, u64>,
-) -> Result<(), RunFault> {
-    let allocator = arrays_of(store, FUNCTIONS)?;
+pub(crate) fn run_elements<H: GcHeap>(rt: &impl Print, store: &mut Store<H, u64>) -> Result<()> {
     let values = [
         function(7, FUNCTION)?,
         Val::FuncRef(None),
         function(9, FUNCTION)?,
     ];
-    let handle = ArrayRef::new_fixed(store, &mut ample(), &allocator, &values)?;
+    let handle = listed(store, FUNCTIONS, &values)?;
     store.gc();
     for index in 0..4 {
         arrays::read(rt, store, handle, index)?;
     }
     arrays::write(rt, store, handle, 1, function(8, FUNCTION)?)?;
     arrays::read(rt, store, handle, 1)?;
-    let allocator = arrays_of(store, FUNCTIONS)?;
-    let handle = ArrayRef::new(store, &mut ample(), &allocator, &Val::FuncRef(None), 2)?;
+    let handle = filled(store, FUNCTIONS, &Val::FuncRef(None), 2)?;
     arrays::read(rt, store, handle, 1)
 }

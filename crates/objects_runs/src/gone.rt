@@ -4,7 +4,6 @@ ghost use Rattle.std.specs.Prelude.{ℕ, IfOk};
 ghost use Rattle.gc_types.specs.declared.kind.VMGcKind.{VMGcKind};
 ghost use Rattle.gc_store.specs.Kinds.{NamesKind};
 
-use crate::fault::RunFault;
 use crate::gone_values::give_handle;
 use crate::setup::{BYTES, EXCEPTION, STRUCT};
 use crate::structs::new_struct;
@@ -13,14 +12,11 @@ use gc_objects::{AnyRef, ArrayRef, ExnRef, ExternRef, StoreExn, StructRef, Throw
 use gc_store::laws::stores_hold_tables;
 use gc_store::{GcRef, Rooted, RootedGcRef, Store, ref_eq};
 use gc_types::VMSharedTypeIndex;
+use run_faults::{Result, RunFault};
 use std::fmt::Debug;
 
 /// Shows what a call refuses.
-pub(crate) fn tell<F: Debug + Drop>(
-    rt: &impl Print,
-    call: &str,
-    refused: Option<F>,
-) -> Result<(), RunFault> {
+pub(crate) fn tell<F: Debug + Drop>(rt: &impl Print, call: &str, refused: Option<F>) -> Result<()> {
     match refused {
         Some(fault) => println!(rt; "{call}: {fault:?}")?,
         None => println!(rt; "{call}: done")?,
@@ -29,15 +25,12 @@ pub(crate) fn tell<F: Debug + Drop>(
 }
 
 /// The same handle, which is found to name nothing in the store, so that it can be given as one of any kind.
-fn nothing<H: GcHeap, T: GcRef>(
-    store: &Store<H, u64>,
-    handle: Rooted<AnyRef>,
-) -> Result<Rooted<T>, RunFault>
+fn nothing<H: GcHeap, T: GcRef>(store: &Store<H, u64>, handle: Rooted<AnyRef>) -> Result<Rooted<T>>
     ensures { IfOk result (λ handle. (kind : VMGcKind) → NamesKind ℕ H.KIND store.now kind handle.index) }
 {
     stores_hold_tables(store);
     match store.object(handle.root_index()) {
-        Ok(_) => Err(RunFault::Missing),
+        Ok(_) => Err(RunFault::NotGone),
         Err(_) => Ok(handle.cast()),
     }
 }
@@ -47,7 +40,7 @@ fn use_struct<H: GcHeap>(
     rt: &impl Print,
     store: &mut Store<H, u64>,
     handle: Rooted<AnyRef>,
-) -> Result<(), RunFault> {
+) -> Result<()> {
     let this: Rooted<StructRef> = nothing(store, handle)?;
     tell(rt, "field", StructRef::field(store, &this, 0).err())?;
     let this: Rooted<StructRef> = nothing(store, handle)?;
@@ -65,7 +58,7 @@ fn ask_struct<H: GcHeap>(
     rt: &impl Print,
     store: &Store<H, u64>,
     handle: Rooted<AnyRef>,
-) -> Result<(), RunFault> {
+) -> Result<()> {
     let this: Rooted<StructRef> = nothing(store, handle)?;
     tell(rt, "ty", StructRef::ty(store, &this).err())?;
     match store.types().struct_type(VMSharedTypeIndex::new(STRUCT)) {
@@ -74,7 +67,7 @@ fn ask_struct<H: GcHeap>(
             "matches_ty",
             StructRef::matches_ty(store, &this, &ty).err(),
         ),
-        None => Err(RunFault::Missing),
+        None => return Err(RunFault::NoType),
     }
 }
 
@@ -83,7 +76,7 @@ fn use_array<H: GcHeap>(
     rt: &impl Print,
     store: &mut Store<H, u64>,
     handle: Rooted<AnyRef>,
-) -> Result<(), RunFault> {
+) -> Result<()> {
     let this: Rooted<ArrayRef> = nothing(store, handle)?;
     tell(rt, "get", ArrayRef::get(store, &this, 0).err())?;
     let this: Rooted<ArrayRef> = nothing(store, handle)?;
@@ -97,7 +90,7 @@ fn ask_array<H: GcHeap>(
     rt: &impl Print,
     store: &Store<H, u64>,
     handle: Rooted<AnyRef>,
-) -> Result<(), RunFault> {
+) -> Result<()> {
     let this: Rooted<ArrayRef> = nothing(store, handle)?;
     tell(rt, "len", ArrayRef::len(store, &this).err())?;
     tell(
@@ -112,7 +105,7 @@ fn ask_array<H: GcHeap>(
             "matches_ty",
             ArrayRef::matches_ty(store, &this, &ty).err(),
         ),
-        None => Err(RunFault::Missing),
+        None => return Err(RunFault::NoType),
     }
 }
 
@@ -121,7 +114,7 @@ fn use_exception<H: GcHeap>(
     rt: &impl Print,
     store: &mut Store<H, u64>,
     handle: Rooted<AnyRef>,
-) -> Result<(), RunFault> {
+) -> Result<()> {
     let this: Rooted<ExnRef> = nothing(store, handle)?;
     tell(rt, "field", ExnRef::field(store, &this, 0).err())?;
     let this: Rooted<ExnRef> = nothing(store, handle)?;
@@ -136,7 +129,7 @@ fn ask_exception<H: GcHeap>(
     rt: &impl Print,
     store: &Store<H, u64>,
     handle: Rooted<AnyRef>,
-) -> Result<(), RunFault> {
+) -> Result<()> {
     let this: Rooted<ExnRef> = nothing(store, handle)?;
     tell(rt, "tag", ExnRef::tag(store, &this).err())?;
     tell(rt, "ty", ExnRef::ty(store, &this).err())?;
@@ -146,7 +139,7 @@ fn ask_exception<H: GcHeap>(
             "matches_ty",
             ExnRef::matches_ty(store, &this, &ty).err(),
         ),
-        None => Err(RunFault::Missing),
+        None => return Err(RunFault::NoType),
     }
 }
 
@@ -155,7 +148,7 @@ fn use_host<H: GcHeap>(
     rt: &impl Print,
     store: &mut Store<H, u64>,
     handle: Rooted<AnyRef>,
-) -> Result<(), RunFault> {
+) -> Result<()> {
     let this: Rooted<ExternRef> = nothing(store, handle)?;
     tell(rt, "data", ExternRef::data(store, &this).err())?;
     tell(rt, "data_mut", ExternRef::data_mut(store, &this).err())?;
@@ -170,7 +163,7 @@ fn ask_any<H: GcHeap>(
     rt: &impl Print,
     store: &Store<H, u64>,
     handle: Rooted<AnyRef>,
-) -> Result<(), RunFault> {
+) -> Result<()> {
     tell(rt, "as_i31", AnyRef::as_i31(store, handle).err())?;
     tell(rt, "as_struct", AnyRef::as_struct(store, handle).err())?;
     tell(rt, "as_array", AnyRef::as_array(store, handle).err())?;
@@ -182,7 +175,7 @@ fn use_handle<H: GcHeap>(
     rt: &impl Print,
     store: &mut Store<H, u64>,
     handle: Rooted<AnyRef>,
-) -> Result<(), RunFault> {
+) -> Result<()> {
     use_struct(rt, store, handle)?;
     ask_struct(rt, store, handle)?;
     use_array(rt, store, handle)?;
@@ -199,7 +192,7 @@ pub(crate) fn run_gone<H: GcHeap>(
     rt: &impl Print,
     store: &mut Store<H, u64>,
     stranger: &mut Store<H, u64>,
-) -> Result<(), RunFault> {
+) -> Result<()> {
     let stale = new_struct(store)?;
     store.exit_gc_lifo_scope(0);
     use_handle(rt, store, stale.cast())?;

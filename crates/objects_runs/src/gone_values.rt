@@ -1,20 +1,16 @@
 //! Each call that takes a value, with one whose handle names nothing; of `StructRef`'s see `structs`.
 
 use crate::exceptions::TAG;
-use crate::fault::RunFault;
 use crate::gone::tell;
-use crate::setup::{BYTES, CONSTANTS, ample, any_type, arrays_of, exceptions};
+use crate::setup::{CONSTANTS, ample, any_type, arrays_of, exceptions, new_bytes};
 use crate::structs::new_struct;
 use gc_heap::GcHeap;
 use gc_objects::{AnyRef, ArrayRef, ExnRef, Val};
 use gc_store::{Rooted, Store, ref_eq};
+use run_faults::Result;
 
 /// Arrays of the value, which aren't made.
-fn make_arrays<H: GcHeap>(
-    rt: &impl Print,
-    store: &mut Store<H, u64>,
-    value: Val,
-) -> Result<(), RunFault> {
+fn make_arrays<H: GcHeap>(rt: &impl Print, store: &mut Store<H, u64>, value: Val) -> Result<()> {
     let allocator = arrays_of(store, CONSTANTS)?;
     let filled = ArrayRef::new(store, &mut ample(), &allocator, &value, 1);
     tell(rt, "new of an array", filled.err())?;
@@ -24,24 +20,15 @@ fn make_arrays<H: GcHeap>(
 }
 
 /// An exception of the value, which isn't made.
-fn make_exception<H: GcHeap>(
-    rt: &impl Print,
-    store: &mut Store<H, u64>,
-    value: Val,
-) -> Result<(), RunFault> {
+fn make_exception<H: GcHeap>(rt: &impl Print, store: &mut Store<H, u64>, value: Val) -> Result<()> {
     let allocator = exceptions(store)?;
     let made = ExnRef::new(store, &mut ample(), &allocator, TAG, &[value]);
     tell(rt, "new of an exception", made.err())
 }
 
 /// An element that isn't set to the value.
-fn set_element<H: GcHeap>(
-    rt: &impl Print,
-    store: &mut Store<H, u64>,
-    value: Val,
-) -> Result<(), RunFault> {
-    let allocator = arrays_of(store, BYTES)?;
-    let array = ArrayRef::new_from_i8_slice(store, &mut ample(), &allocator, &[0])?;
+fn set_element<H: GcHeap>(rt: &impl Print, store: &mut Store<H, u64>, value: Val) -> Result<()> {
+    let array = new_bytes(store, &[0])?;
     let set = ArrayRef::set(store, &array, 0, value);
     tell(rt, "set to it", set.err())
 }
@@ -51,7 +38,7 @@ fn compare<H: GcHeap>(
     rt: &impl Print,
     store: &mut Store<H, u64>,
     handle: Rooted<AnyRef>,
-) -> Result<(), RunFault> {
+) -> Result<()> {
     let live: Rooted<AnyRef> = new_struct(store)?.cast();
     tell(
         rt,
@@ -65,7 +52,7 @@ pub(crate) fn give_handle<H: GcHeap>(
     rt: &impl Print,
     store: &mut Store<H, u64>,
     handle: Rooted<AnyRef>,
-) -> Result<(), RunFault> {
+) -> Result<()> {
     let value = Val::AnyRef(Some(handle));
     make_arrays(rt, store, value)?;
     make_exception(rt, store, value)?;

@@ -1,17 +1,17 @@
 //! Owned roots with two handles.
 
-use crate::fault::RunFault;
 use gc_heap::GcHeap;
 use gc_objects::AnyRef;
 use gc_refs::I31;
 use gc_store::{OwnedRooted, Store};
+use run_faults::Result;
 
 /// Gives a handle up.
 fn give_up<H: GcHeap>(
     rt: &impl Print,
     store: &mut Store<H, u64>,
     handle: OwnedRooted<AnyRef>,
-) -> Result<(), RunFault> {
+) -> Result<()> {
     match handle.unroot(store) {
         Ok(()) => println!(rt; "unroot: given up")?,
         Err(_) => println!(rt; "unroot: handed back")?,
@@ -24,7 +24,7 @@ fn show_root<H: GcHeap>(
     rt: &impl Print,
     store: &mut Store<H, u64>,
     handle: &OwnedRooted<AnyRef>,
-) -> Result<(), RunFault> {
+) -> Result<()> {
     match handle.to_rooted(store) {
         Ok(_) => println!(rt; "to_rooted: made")?,
         Err(fault) => println!(rt; "to_rooted: {fault}")?,
@@ -32,11 +32,21 @@ fn show_root<H: GcHeap>(
     Ok(())
 }
 
-/// An owned root stands until the second of its handles is given up, whichever that is.
-pub(crate) fn run_owned<H: GcHeap>(
+/// Gives two handles of one root up, with a collection between.
+fn give_both_up<H: GcHeap>(
     rt: &impl Print,
     store: &mut Store<H, u64>,
-) -> Result<(), RunFault> {
+    early: OwnedRooted<AnyRef>,
+    late: OwnedRooted<AnyRef>,
+) -> Result<()> {
+    give_up(rt, store, early)?;
+    store.gc();
+    show_root(rt, store, &late)?;
+    give_up(rt, store, late)
+}
+
+/// An owned root stands until the second of its handles is given up, whichever that is.
+pub(crate) fn run_owned<H: GcHeap>(rt: &impl Print, store: &mut Store<H, u64>) -> Result<()> {
     for is_turned in [false, true] {
         let rooted = AnyRef::from_i31(store, I31::wrapping_u32(4))?;
         let made = rooted.to_owned_rooted(store)?;
@@ -47,10 +57,7 @@ pub(crate) fn run_owned<H: GcHeap>(
         } else {
             (made, cloned)
         };
-        give_up(rt, store, early)?;
-        store.gc();
-        show_root(rt, store, &late)?;
-        give_up(rt, store, late)?;
+        give_both_up(rt, store, early, late)?;
     }
     Ok(())
 }

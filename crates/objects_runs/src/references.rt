@@ -1,19 +1,19 @@
 //! References: 31-bit numbers, what they fit, and those of the embedder.
 
-use crate::fault::RunFault;
+ghost use Rattle.std.specs.Prelude.{ℕ, IfOk};
+ghost use Rattle.gc_types.specs.declared.kind.VMGcKind.{VMGcKind};
+ghost use Rattle.gc_store.specs.Kinds.{NamesKind};
+
 use crate::setup::{ample, any_type};
 use gc_heap::GcHeap;
 use gc_objects::{AnyRef, ExternRef, StructRef, Val};
 use gc_refs::I31;
 use gc_store::{Rooted, RootedGcRef, Store};
 use gc_types::ValType;
+use run_faults::{Result, RunFault};
 
 /// Asks what a reference is.
-fn ask<H: GcHeap>(
-    rt: &impl Print,
-    store: &Store<H, u64>,
-    handle: Rooted<AnyRef>,
-) -> Result<(), RunFault> {
+fn ask<H: GcHeap>(rt: &impl Print, store: &Store<H, u64>, handle: Rooted<AnyRef>) -> Result<()> {
     match AnyRef::as_i31(store, handle)? {
         Some(number) => println!(rt; "number {}", number.get_u32())?,
         None => println!(rt; "no number")?,
@@ -24,10 +24,7 @@ fn ask<H: GcHeap>(
 }
 
 /// Makes a 31-bit number, and asks what it is and what it fits. The value is answered.
-pub(crate) fn run_number<H: GcHeap>(
-    rt: &impl Print,
-    store: &mut Store<H, u64>,
-) -> Result<Val, RunFault> {
+pub(crate) fn run_number<H: GcHeap>(rt: &impl Print, store: &mut Store<H, u64>) -> Result<Val> {
     let five = AnyRef::from_i31(store, I31::wrapping_u32(5))?;
     ask(rt, store, five)?;
     let value = Val::AnyRef(Some(five));
@@ -42,7 +39,7 @@ fn show_data<H: GcHeap>(
     rt: &impl Print,
     store: &Store<H, u64>,
     handle: Rooted<ExternRef>,
-) -> Result<(), RunFault> {
+) -> Result<()> {
     match ExternRef::data(store, &handle)? {
         Some(number) => println!(rt; "host value {number}")?,
         None => println!(rt; "no host object")?,
@@ -50,12 +47,19 @@ fn show_data<H: GcHeap>(
     Ok(())
 }
 
+/// A new host object of that number.
+fn new_host<H: GcHeap>(store: &mut Store<H, u64>, number: u64) -> Result<Rooted<ExternRef>>
+    ensures { IfOk result (λ handle. NamesKind ℕ H.KIND store.new VMGcKind.ExternRef handle.index) }
+{
+    match ExternRef::new(store, &mut ample(), number) {
+        Ok(handle) => Ok(handle),
+        Err(_) => return Err(RunFault::NotMade),
+    }
+}
+
 /// Makes a host object, gives it another value, and converts a number to a reference of the embedder.
-pub(crate) fn run_hosts<H: GcHeap>(
-    rt: &impl Print,
-    store: &mut Store<H, u64>,
-) -> Result<(), RunFault> {
-    let handle = ExternRef::new(store, &mut ample(), 7)?;
+pub(crate) fn run_hosts<H: GcHeap>(rt: &impl Print, store: &mut Store<H, u64>) -> Result<()> {
+    let handle = new_host(store, 7)?;
     show_data(rt, store, handle)?;
     *ExternRef::data_mut(store, &handle)? = 8;
     show_data(rt, store, handle)?;

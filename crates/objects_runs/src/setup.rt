@@ -6,11 +6,13 @@ ghost use Rattle.gc_types.specs.declared.kind.VMGcKind.{VMGcKind};
 ghost use Rattle.gc_store.specs.Kinds.{NamesKind};
 ghost use Rattle.gc_objects.specs.Kinds.{IsDeclaredAs};
 
-use crate::fault::RunFault;
 use gc_heap::GcHeap;
-use gc_objects::{AnyRef, ArrayRef, ArrayRefPre, ExnRefPre, StructRef, StructRefPre};
+use gc_objects::{AnyRef, ArrayRef, ArrayRefPre, ExnRefPre, StructRef, StructRefPre, Val};
 use gc_store::{PageLimit, Rooted, Store};
-use gc_types::{FieldType, HeapType, Mutability, RefType, StorageType, VMSharedTypeIndex, ValType};
+use gc_types::{
+    FieldType, HeapType, Mutability, RefType, StorageType, TypeFault, VMSharedTypeIndex, ValType,
+};
+use run_faults::{Result, RunFault};
 
 /// The type of structs of an 8-bit integer, a constant 64-bit one and a reference.
 pub(crate) const STRUCT: u32 = 0;
@@ -95,7 +97,7 @@ fn continuation(ty: ValType) -> FieldType {
 }
 
 /// Declares the types of a new store.
-pub(crate) fn declare_types<H: GcHeap>(store: &mut Store<H, u64>) -> Result<(), RunFault> {
+pub(crate) fn declare_types<H: GcHeap>(store: &mut Store<H, u64>) -> Result<(), TypeFault> {
     let fields = [
         field(Mutability::Var, StorageType::I8),
         field(Mutability::Const, StorageType::ValType(ValType::I64)),
@@ -110,7 +112,7 @@ pub(crate) fn declare_types<H: GcHeap>(store: &mut Store<H, u64>) -> Result<(), 
 }
 
 /// Declares two types of functions, and those of what holds functions.
-fn declare_functions<H: GcHeap>(store: &mut Store<H, u64>) -> Result<(), RunFault> {
+fn declare_functions<H: GcHeap>(store: &mut Store<H, u64>) -> Result<(), TypeFault> {
     store.declare_func(&[], &[], None, false)?;
     store.declare_func(&[ValType::I32], &[], None, false)?;
     let fields = [function()];
@@ -120,7 +122,7 @@ fn declare_functions<H: GcHeap>(store: &mut Store<H, u64>) -> Result<(), RunFaul
 }
 
 /// Declares the types of what holds continuations.
-fn declare_continuations<H: GcHeap>(store: &mut Store<H, u64>) -> Result<(), RunFault> {
+fn declare_continuations<H: GcHeap>(store: &mut Store<H, u64>) -> Result<(), TypeFault> {
     let fields = [continuation(CONT_TYPE)];
     store.declare_struct(&fields, None, false)?;
     store.declare_array(continuation(CONT_TYPE), None, false)?;
@@ -130,38 +132,88 @@ fn declare_continuations<H: GcHeap>(store: &mut Store<H, u64>) -> Result<(), Run
 }
 
 /// An allocator of structs of that type.
-pub(crate) fn structs_of<H: GcHeap>(
-    store: &mut Store<H, u64>,
-    ty: u32,
-) -> Result<StructRefPre, RunFault>
+pub(crate) fn structs_of<H: GcHeap>(store: &mut Store<H, u64>, ty: u32) -> Result<StructRefPre>
     ensures { IfOk result (IsDeclaredAs store.new TypeKind.Struct) }
 {
     match store.types().struct_type(VMSharedTypeIndex::new(ty)) {
         Some(ty) => Ok(StructRefPre::new(store, ty)?),
-        None => Err(RunFault::Missing),
+        None => return Err(RunFault::NoType),
     }
 }
 
 /// An allocator of arrays of that type.
-pub(crate) fn arrays_of<H: GcHeap>(
-    store: &mut Store<H, u64>,
-    ty: u32,
-) -> Result<ArrayRefPre, RunFault>
+pub(crate) fn arrays_of<H: GcHeap>(store: &mut Store<H, u64>, ty: u32) -> Result<ArrayRefPre>
     ensures { IfOk result (IsDeclaredAs store.new TypeKind.Array) }
 {
     match store.types().array_type(VMSharedTypeIndex::new(ty)) {
         Some(ty) => Ok(ArrayRefPre::new(store, ty)?),
-        None => Err(RunFault::Missing),
+        None => return Err(RunFault::NoType),
     }
 }
 
 /// An allocator of exceptions.
-pub(crate) fn exceptions<H: GcHeap>(store: &mut Store<H, u64>) -> Result<ExnRefPre, RunFault>
+pub(crate) fn exceptions<H: GcHeap>(store: &mut Store<H, u64>) -> Result<ExnRefPre>
     ensures { IfOk result (IsDeclaredAs store.new TypeKind.Exn) }
 {
     match store.types().exn_type(VMSharedTypeIndex::new(EXCEPTION)) {
         Some(ty) => Ok(ExnRefPre::new(store, ty)?),
-        None => Err(RunFault::Missing),
+        None => return Err(RunFault::NoType),
+    }
+}
+
+/// A new struct of that type.
+pub(crate) fn new_struct_of<H: GcHeap>(
+    store: &mut Store<H, u64>,
+    ty: u32,
+    values: &[Val],
+) -> Result<Rooted<StructRef>>
+    ensures { IfOk result (λ handle. NamesKind ℕ H.KIND store.new VMGcKind.StructRef handle.index) }
+{
+    let allocator = structs_of(store, ty)?;
+    match StructRef::new(store, &mut ample(), &allocator, values) {
+        Ok(handle) => Ok(handle),
+        Err(_) => return Err(RunFault::NotMade),
+    }
+}
+
+/// A new array of that type, of one value so many times.
+pub(crate) fn filled<H: GcHeap>(
+    store: &mut Store<H, u64>,
+    ty: u32,
+    value: &Val,
+    count: u32,
+) -> Result<Rooted<ArrayRef>> {
+    let allocator = arrays_of(store, ty)?;
+    match ArrayRef::new(store, &mut ample(), &allocator, value, count) {
+        Ok(handle) => Ok(handle),
+        Err(_) => return Err(RunFault::NotMade),
+    }
+}
+
+/// A new array of that type, of these values.
+pub(crate) fn listed<H: GcHeap>(
+    store: &mut Store<H, u64>,
+    ty: u32,
+    values: &[Val],
+) -> Result<Rooted<ArrayRef>> {
+    let allocator = arrays_of(store, ty)?;
+    match ArrayRef::new_fixed(store, &mut ample(), &allocator, values) {
+        Ok(handle) => Ok(handle),
+        Err(_) => return Err(RunFault::NotMade),
+    }
+}
+
+/// A new array of these bytes.
+pub(crate) fn new_bytes<H: GcHeap>(
+    store: &mut Store<H, u64>,
+    bytes: &[u8],
+) -> Result<Rooted<ArrayRef>>
+    ensures { IfOk result (λ handle. NamesKind ℕ H.KIND store.new VMGcKind.ArrayRef handle.index) }
+{
+    let allocator = arrays_of(store, BYTES)?;
+    match ArrayRef::new_from_i8_slice(store, &mut ample(), &allocator, bytes) {
+        Ok(handle) => Ok(handle),
+        Err(_) => return Err(RunFault::NotMade),
     }
 }
 
@@ -169,13 +221,12 @@ pub(crate) fn exceptions<H: GcHeap>(store: &mut Store<H, u64>) -> Result<ExnRefP
 pub(crate) fn as_struct<H: GcHeap>(
     store: &Store<H, u64>,
     handle: Rooted<StructRef>,
-) -> Result<Rooted<StructRef>, RunFault>
+) -> Result<Rooted<StructRef>>
     ensures { IfOk result (λ handle. NamesKind ℕ H.KIND store.now VMGcKind.StructRef handle.index) }
 {
     match AnyRef::as_struct(store, handle.cast()) {
         Ok(Some(handle)) => Ok(handle),
-        Ok(None) => Err(RunFault::Missing),
-        Err(fault) => Err(RunFault::Root(fault)),
+        _ => return Err(RunFault::NoObject),
     }
 }
 
@@ -183,12 +234,11 @@ pub(crate) fn as_struct<H: GcHeap>(
 pub(crate) fn as_array<H: GcHeap>(
     store: &Store<H, u64>,
     handle: Rooted<ArrayRef>,
-) -> Result<Rooted<ArrayRef>, RunFault>
+) -> Result<Rooted<ArrayRef>>
     ensures { IfOk result (λ handle. NamesKind ℕ H.KIND store.now VMGcKind.ArrayRef handle.index) }
 {
     match AnyRef::as_array(store, handle.cast()) {
         Ok(Some(handle)) => Ok(handle),
-        Ok(None) => Err(RunFault::Missing),
-        Err(fault) => Err(RunFault::Root(fault)),
+        _ => return Err(RunFault::NoObject),
     }
 }

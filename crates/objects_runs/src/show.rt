@@ -1,18 +1,53 @@
 //! Shows what calls answer.
 
-use crate::fault::RunFault;
 use gc_objects::{AccessFault, AllocFault, Val};
 use gc_store::{GcRef, Rooted};
+use run_faults::Result;
 
 /// Shows whether an object was made of what the name tells.
 pub(crate) fn show_made<T: GcRef>(
     rt: &impl Print,
     name: &str,
     answer: Result<Rooted<T>, AllocFault<()>>,
-) -> Result<(), RunFault> {
+) -> Result<()> {
     match answer {
         Ok(_) => println!(rt; "{name}: made")?,
         Err(fault) => println!(rt; "{name}: {fault:?}")?,
+    }
+    Ok(())
+}
+
+/// The name of a value.
+fn name_of(value: &Val) -> &'static str {
+    match value {
+        Val::I32(_) => "i32",
+        Val::I64(_) => "i64",
+        Val::AnyRef(None) => "null",
+        Val::FuncRef(Some(_)) => "function",
+        Val::FuncRef(None) => "no function",
+        Val::ContRef(Some(_)) => "continuation",
+        Val::ContRef(None) => "no continuation",
+        _ => "a reference",
+    }
+}
+
+/// The number that a value has beside its name.
+fn number_of(value: &Val) -> Option<i128> {
+    match value {
+        Val::I32(number) => Some(i128::from(*number)),
+        Val::I64(number) => Some(i128::from(*number)),
+        Val::FuncRef(Some(func)) => Some(i128::from(func.number)),
+        Val::ContRef(Some(number)) => Some(i128::from(*number)),
+        _ => None,
+    }
+}
+
+/// Shows a value of a field or an element.
+fn show_value(rt: &impl Print, place: &str, index: u32, value: &Val) -> Result<()> {
+    let name = name_of(value);
+    match number_of(value) {
+        Some(number) => println!(rt; "{place} {index} is {name} {number}")?,
+        None => println!(rt; "{place} {index} is {name}")?,
     }
     Ok(())
 }
@@ -23,22 +58,14 @@ pub(crate) fn show_read(
     place: &str,
     index: u32,
     answer: Result<Val, AccessFault>,
-) -> Result<(), RunFault> {
+) -> Result<()> {
     match answer {
-        Ok(Val::I32(number)) => println!(rt; "{place} {index} is i32 {number}")?,
-        Ok(Val::I64(number)) => println!(rt; "{place} {index} is i64 {number}")?,
-        Ok(Val::AnyRef(None)) => println!(rt; "{place} {index} is null")?,
-        Ok(Val::FuncRef(Some(func))) => println!(rt;
-            "{place} {index} is function {}",
-            func.number
-        )?,
-        Ok(Val::FuncRef(None)) => println!(rt; "{place} {index} is no function")?,
-        Ok(Val::ContRef(Some(cont))) => println!(rt; "{place} {index} is continuation {cont}")?,
-        Ok(Val::ContRef(None)) => println!(rt; "{place} {index} is no continuation")?,
-        Ok(_) => println!(rt; "{place} {index} is a reference")?,
-        Err(fault) => println!(rt; "{place} {index}: {fault:?}")?,
+        Ok(value) => show_value(rt, place, index, &value),
+        Err(fault) => {
+            println!(rt; "{place} {index}: {fault:?}")?;
+            Ok(())
+        }
     }
-    Ok(())
 }
 
 /// Shows whether a field or an element was written.
@@ -47,7 +74,7 @@ pub(crate) fn show_write(
     place: &str,
     index: u32,
     answer: Result<(), AccessFault>,
-) -> Result<(), RunFault> {
+) -> Result<()> {
     match answer {
         Ok(()) => println!(rt; "{place} {index} is written")?,
         Err(fault) => println!(rt; "{place} {index}: {fault:?}")?,
@@ -56,7 +83,7 @@ pub(crate) fn show_write(
 }
 
 /// Shows the type of an object, and whether the object matches it.
-pub(crate) fn show_type(rt: &impl Print, ty: u32, matches: bool) -> Result<(), RunFault> {
+pub(crate) fn show_type(rt: &impl Print, ty: u32, matches: bool) -> Result<()> {
     println!(rt; "type {ty}, matched: {matches}")?;
     Ok(())
 }

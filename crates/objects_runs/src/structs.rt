@@ -4,28 +4,25 @@ ghost use Rattle.std.specs.Prelude.{ℕ, IfOk};
 ghost use Rattle.gc_types.specs.declared.kind.VMGcKind.{VMGcKind};
 ghost use Rattle.gc_store.specs.Kinds.{NamesKind};
 
-use crate::fault::RunFault;
-use crate::setup::{STRUCT, ample, as_struct, structs_of};
+use crate::setup::{STRUCT, ample, as_struct, new_struct_of, structs_of};
 use crate::show::{show_made, show_read, show_type, show_write};
 use gc_heap::GcHeap;
 use gc_objects::{AnyRef, StructRef, Val};
 use gc_store::{Rooted, RootedGcRef, Store, ref_eq};
+use run_faults::{Result, RunFault};
 
 /// Values for the fields of a struct.
 const VALUES: [Val; 3] = [Val::I32(-1), Val::I64(5), Val::AnyRef(None)];
 
 /// A new struct.
-pub(crate) fn new_struct<H: GcHeap>(
-    store: &mut Store<H, u64>,
-) -> Result<Rooted<StructRef>, RunFault>
+pub(crate) fn new_struct<H: GcHeap>(store: &mut Store<H, u64>) -> Result<Rooted<StructRef>>
     ensures { IfOk result (λ handle. NamesKind ℕ H.KIND store.new VMGcKind.StructRef handle.index) }
 {
-    let allocator = structs_of(store, STRUCT)?;
-    Ok(StructRef::new(store, &mut ample(), &allocator, &VALUES)?)
+    new_struct_of(store, STRUCT, &VALUES)
 }
 
 /// A handle of a new struct, as a value.
-fn new_value<H: GcHeap>(store: &mut Store<H, u64>) -> Result<Val, RunFault> {
+fn new_value<H: GcHeap>(store: &mut Store<H, u64>) -> Result<Val> {
     Ok(Val::AnyRef(Some(new_struct(store)?.cast())))
 }
 
@@ -35,31 +32,19 @@ fn make<H: GcHeap>(
     store: &mut Store<H, u64>,
     name: &str,
     values: &[Val],
-) -> Result<(), RunFault> {
+) -> Result<()> {
     let allocator = structs_of(store, STRUCT)?;
     let answer = StructRef::new(store, &mut ample(), &allocator, values);
     show_made(rt, name, answer)
 }
 
-/// A new struct of that type, which has one field.
-pub(crate) fn new_holder<H: GcHeap>(
-    store: &mut Store<H, u64>,
-    ty: u32,
-    value: &Val,
-) -> Result<Rooted<StructRef>, RunFault>
-    ensures { IfOk result (λ handle. NamesKind ℕ H.KIND store.new VMGcKind.StructRef handle.index) }
-{
-    let allocator = structs_of(store, ty)?;
-    Ok(StructRef::new(store, &mut ample(), &allocator, &[*value])?)
-}
-
-/// Writes the field of such a struct, and reads it.
+/// Writes the first field of a struct, and reads it.
 pub(crate) fn write_and_read<H: GcHeap>(
     rt: &impl Print,
     store: &mut Store<H, u64>,
     handle: Rooted<StructRef>,
     value: &Val,
-) -> Result<(), RunFault> {
+) -> Result<()> {
     write(rt, store, handle, 0, value)?;
     read(rt, store, handle, 0)
 }
@@ -70,7 +55,7 @@ pub(crate) fn read<H: GcHeap>(
     store: &mut Store<H, u64>,
     handle: Rooted<StructRef>,
     index: u32,
-) -> Result<(), RunFault> {
+) -> Result<()> {
     let handle = as_struct(store, handle)?;
     let answer = StructRef::field(store, &handle, index as usize);
     show_read(rt, "field", index, answer)
@@ -83,7 +68,7 @@ pub(crate) fn write<H: GcHeap>(
     handle: Rooted<StructRef>,
     index: u32,
     value: &Val,
-) -> Result<(), RunFault> {
+) -> Result<()> {
     let handle = as_struct(store, handle)?;
     let answer = StructRef::set_field(store, &handle, index as usize, *value);
     show_write(rt, "field", index, answer)
@@ -94,10 +79,10 @@ fn ask_itself<H: GcHeap>(
     rt: &impl Print,
     store: &mut Store<H, u64>,
     handle: Rooted<StructRef>,
-) -> Result<(), RunFault> {
+) -> Result<()> {
     let handle = as_struct(store, handle)?;
     let Val::AnyRef(Some(found)) = StructRef::field(store, &handle, 2)? else {
-        return Err(RunFault::Missing);
+        return Err(RunFault::NoReference);
     };
     let same = ref_eq(store, &handle.cast::<AnyRef>(), &found)?;
     println!(rt; "field 2 is the struct: {same}")?;
@@ -109,7 +94,7 @@ fn ask_type<H: GcHeap>(
     rt: &impl Print,
     store: &Store<H, u64>,
     handle: Rooted<StructRef>,
-) -> Result<(), RunFault> {
+) -> Result<()> {
     let handle = as_struct(store, handle)?;
     let ty = StructRef::ty(store, &handle)?;
     let matches = StructRef::matches_ty(store, &handle, &ty)?;
@@ -117,10 +102,7 @@ fn ask_type<H: GcHeap>(
 }
 
 /// Makes a struct, reads and writes its fields, and asks for its type.
-pub(crate) fn run_struct<H: GcHeap>(
-    rt: &impl Print,
-    store: &mut Store<H, u64>,
-) -> Result<(), RunFault> {
+pub(crate) fn run_struct<H: GcHeap>(rt: &impl Print, store: &mut Store<H, u64>) -> Result<()> {
     let handle = new_struct(store)?;
     for index in 0..4 {
         read(rt, store, handle, index)?;
@@ -138,7 +120,7 @@ pub(crate) fn run_refused_structs<H: GcHeap>(
     rt: &impl Print,
     store: &mut Store<H, u64>,
     stranger: &mut Store<H, u64>,
-) -> Result<(), RunFault> {
+) -> Result<()> {
     let foreign = [new_value(stranger)?];
     make(rt, store, "foreign alone", &foreign)?;
     make(rt, store, "two wide", &[Val::I64(1), Val::I32(5)])?;
@@ -156,7 +138,7 @@ pub(crate) fn run_refused_structs<H: GcHeap>(
 pub(crate) fn run_stale_struct<H: GcHeap>(
     rt: &impl Print,
     store: &mut Store<H, u64>,
-) -> Result<(), RunFault> {
+) -> Result<()> {
     let stale = [new_value(store)?];
     store.exit_gc_lifo_scope(0);
     make(rt, store, "stale alone", &stale)?;

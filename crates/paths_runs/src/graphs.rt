@@ -4,15 +4,15 @@ ghost use Rattle.std.specs.Prelude.{IfOk};
 ghost use Rattle.gc_types.specs.declared.kind.TypeKind.{TypeKind};
 ghost use Rattle.gc_objects.specs.Kinds.{IsDeclaredAs};
 
-use crate::fault::RunFault;
 use crate::show::{show_path, show_report};
 use gc_heap::GcHeap;
 use gc_objects::{AnyRef, StructRef, StructRefPre, Val};
 use gc_path_to::path_to;
 use gc_paths::all_paths;
 use gc_refs::I31;
-use gc_store::{GcClass, GcRootIndex, PageLimit, Rooted, RootedGcRef, Store};
+use gc_store::{GcClass, GcRootIndex, PageLimit, Rooted, RootedGcRef, SlotFault, Store};
 use gc_types::{FieldType, HeapType, Mutability, RefType, StorageType, VMSharedTypeIndex, ValType};
+use run_faults::{Result, RunFault};
 use std::alloc::Global;
 
 /// The most pages that a heap gets.
@@ -22,7 +22,7 @@ const MOST_PAGES: u32 = 64;
 const STRUCT: u32 = 0;
 
 /// Declares structs of so many references of class any.
-fn declare<H: GcHeap>(store: &mut Store<H, u64>, fields: &[FieldType]) -> Result<(), RunFault> {
+fn declare<H: GcHeap>(store: &mut Store<H, u64>, fields: &[FieldType]) -> Result<()> {
     store.declare_struct(fields, None, false)?;
     Ok(())
 }
@@ -39,23 +39,22 @@ fn reference() -> FieldType {
 }
 
 /// An allocator of structs.
-fn structs<H: GcHeap>(store: &mut Store<H, u64>) -> Result<StructRefPre, RunFault>
+fn structs<H: GcHeap>(store: &mut Store<H, u64>) -> Result<StructRefPre>
     ensures { IfOk result (IsDeclaredAs store.new TypeKind.Struct) }
 {
     match store.types().struct_type(VMSharedTypeIndex::new(STRUCT)) {
         Some(ty) => Ok(StructRefPre::new(store, ty)?),
-        None => Err(RunFault::Missing),
+        None => return Err(RunFault::NoType),
     }
 }
 
 /// A new struct of these references.
-fn make<H: GcHeap>(
-    store: &mut Store<H, u64>,
-    fields: &[Val],
-) -> Result<Rooted<StructRef>, RunFault> {
+fn make<H: GcHeap>(store: &mut Store<H, u64>, fields: &[Val]) -> Result<Rooted<StructRef>> {
     let allocator = structs(store)?;
-    let mut limiter = PageLimit::new(MOST_PAGES);
-    Ok(StructRef::new(store, &mut limiter, &allocator, fields)?)
+    match StructRef::new(store, &mut PageLimit::new(MOST_PAGES), &allocator, fields) {
+        Ok(handle) => Ok(handle),
+        Err(_) => return Err(RunFault::NotMade),
+    }
 }
 
 /// A struct as a value.
@@ -68,11 +67,8 @@ fn set_global<H: GcHeap>(
     store: &mut Store<H, u64>,
     global: u32,
     root: GcRootIndex,
-) -> Result<(), RunFault> {
-    match store.global_set(global, GcClass::Any, Some(root)) {
-        Ok(()) => Ok(()),
-        Err(fault) => Err(RunFault::NotSet(fault)),
-    }
+) -> Result<(), SlotFault> {
+    store.global_set(global, GcClass::Any, Some(root))
 }
 
 /// One object that names another, which a global names: from the globals, and from the scoped roots too.
@@ -80,7 +76,7 @@ pub(crate) fn run_chain<H: GcHeap>(
     rt: &impl Print,
     alloc: Global,
     store: &mut Store<H, u64>,
-) -> Result<(), RunFault> {
+) -> Result<()> {
     declare(store, &[reference()])?;
     let first = make(store, &[Val::AnyRef(None)])?;
     let second = make(store, &[value_of(first)])?;
@@ -98,7 +94,7 @@ pub(crate) fn run_without<H: GcHeap>(
     rt: &impl Print,
     alloc: Global,
     store: &mut Store<H, u64>,
-) -> Result<(), RunFault> {
+) -> Result<()> {
     let garbage = make(store, &[Val::AnyRef(None)])?.root_index();
     show_path(rt, "to garbage", path_to(alloc, store, garbage))?;
     let number = store.push_i31(I31::wrapping_u32(7))?;
@@ -112,7 +108,7 @@ pub(crate) fn run_shared<H: GcHeap>(
     rt: &impl Print,
     alloc: Global,
     store: &mut Store<H, u64>,
-) -> Result<(), RunFault> {
+) -> Result<()> {
     declare(store, &[reference(), reference()])?;
     let first = make(store, &[Val::AnyRef(None), Val::AnyRef(None)])?;
     let second = make(store, &[value_of(first), Val::AnyRef(None)])?;
@@ -126,7 +122,7 @@ pub(crate) fn run_depth<H: GcHeap>(
     rt: &impl Print,
     alloc: Global,
     store: &mut Store<H, u64>,
-) -> Result<(), RunFault> {
+) -> Result<()> {
     store.exit_gc_lifo_scope(0);
     make(store, &[Val::AnyRef(None), Val::AnyRef(None)])?;
     show_report(rt, "with a scoped one", all_paths(alloc, store, true))
@@ -137,7 +133,7 @@ pub(crate) fn run_few_roots<H: GcHeap>(
     rt: &impl Print,
     alloc: Global,
     store: &mut Store<H, u64>,
-) -> Result<(), RunFault> {
+) -> Result<()> {
     declare(store, &[reference()])?;
     let first = make(store, &[Val::AnyRef(None)])?;
     let second = make(store, &[value_of(first)])?;

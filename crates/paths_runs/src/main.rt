@@ -3,65 +3,88 @@
 //! What must be printed, in `stdout`, was worked out by hand from the rules in docs/.
 #![tactic(auto)]
 
-mod fault;
 mod graphs;
 mod show;
 
-use crate::fault::RunFault;
+ghost use Rattle.std.specs.Prelude.{◌≡◌};
+ghost use Rattle.gc_view.specs.Heaps.{detached};
+
 use crate::graphs::{run_chain, run_depth, run_few_roots, run_shared, run_without};
 use gc_copying::CopyingHeap;
 use gc_drc::DrcHeap;
 use gc_heap::{GcHeap, NullHeap};
 use gc_store::{HeapConfig, Store, StoreId};
+use run_faults::{Result, RunFault};
 use std::alloc::Global;
 
-/// A store of these runs, by its number.
-fn id_of(number: u64) -> StoreId {
-    StoreId { engine: 0, number }
-}
+/// The id of each store.
+const STORE: StoreId = StoreId {
+    engine: 0,
+    number: 0,
+};
+
+/// How many scoped roots a store may have that has room enough.
+const AMPLE_ROOTS: u32 = 64;
 
 /// How many scoped roots the last store may have: one less than its walks need.
 const FEW_ROOTS: u32 = 3;
 
-/// Configures stores with so many scoped roots at most.
-fn config_of(max_scoped: u32) -> Result<HeapConfig, RunFault> {
-    HeapConfig::new(1, max_scoped, 16, None).ok_or(RunFault::Missing)
+/// A store over that heap, with so many scoped roots at most.
+fn store_over<H: GcHeap + Drop>(alloc: Global, heap: H, max_scoped: u32) -> Result<Store<H, u64>>
+    requires sound { H.sound heap }
+    requires empty { H.seen heap ≡ detached }
+{
+    let config = HeapConfig::new(1, max_scoped, 16, None).ok_or(RunFault::NoConfiguration)?;
+    Ok(Store::new(alloc, STORE, heap, config)?)
 }
 
-/// The heap of one kind: what a new one is.
-fn run_heap<H: GcHeap>(
-    rt: &impl Print,
-    alloc: Global,
-    chain: &mut Store<H, u64>,
-    shared: &mut Store<H, u64>,
-) -> Result<(), RunFault> {
-    run_chain(rt, alloc, chain)?;
-    run_without(rt, alloc, chain)?;
-    run_shared(rt, alloc, shared)?;
-    run_depth(rt, alloc, shared)
+/// The paths of a chain in a store.
+fn run_chains<H: GcHeap>(rt: &impl Print, alloc: Global, store: &mut Store<H, u64>) -> Result<()> {
+    run_chain(rt, alloc, store)?;
+    run_without(rt, alloc, store)
 }
 
-fn main(rt: HostRuntime) -> Result<(), RunFault> {
+/// The paths of shared objects in a store.
+fn run_lengths<H: GcHeap>(rt: &impl Print, alloc: Global, store: &mut Store<H, u64>) -> Result<()> {
+    run_shared(rt, alloc, store)?;
+    run_depth(rt, alloc, store)
+}
+
+/// A chain in a store over that heap.
+fn chains_over<H: GcHeap + Drop>(rt: &impl Print, alloc: Global, heap: H) -> Result<()>
+    requires sound { H.sound heap }
+    requires empty { H.seen heap ≡ detached }
+{
+    let mut store = store_over(alloc, heap, AMPLE_ROOTS)?;
+    run_chains(rt, alloc, &mut store)
+}
+
+/// Shared objects in a store over that heap.
+fn lengths_over<H: GcHeap + Drop>(rt: &impl Print, alloc: Global, heap: H) -> Result<()>
+    requires sound { H.sound heap }
+    requires empty { H.seen heap ≡ detached }
+{
+    let mut store = store_over(alloc, heap, AMPLE_ROOTS)?;
+    run_lengths(rt, alloc, &mut store)
+}
+
+/// A store with few roots.
+fn run_few(rt: &impl Print, alloc: Global) -> Result<()> {
+    let mut store = store_over(alloc, CopyingHeap::new(alloc), FEW_ROOTS)?;
+    run_few_roots(rt, alloc, &mut store)
+}
+
+fn main(rt: HostRuntime) -> Result<()> {
     let alloc = rt.alloc();
-    let ample = config_of(64)?;
     println!(rt; "== null")?;
-    let mut chain = Store::new(alloc, id_of(0), NullHeap::new(alloc), ample)?;
-    let mut shared = Store::new(alloc, id_of(1), NullHeap::new(alloc), ample)?;
-    run_heap(&rt, alloc, &mut chain, &mut shared)?;
+    chains_over(&rt, alloc, NullHeap::new(alloc))?;
+    lengths_over(&rt, alloc, NullHeap::new(alloc))?;
     println!(rt; "== counting")?;
-    let mut chain = Store::new(alloc, id_of(2), DrcHeap::new(alloc), ample)?;
-    let mut shared = Store::new(alloc, id_of(3), DrcHeap::new(alloc), ample)?;
-    run_heap(&rt, alloc, &mut chain, &mut shared)?;
+    chains_over(&rt, alloc, DrcHeap::new(alloc))?;
+    lengths_over(&rt, alloc, DrcHeap::new(alloc))?;
     println!(rt; "== copying")?;
-    let mut chain = Store::new(alloc, id_of(4), CopyingHeap::new(alloc), ample)?;
-    let mut shared = Store::new(alloc, id_of(5), CopyingHeap::new(alloc), ample)?;
-    run_heap(&rt, alloc, &mut chain, &mut shared)?;
+    chains_over(&rt, alloc, CopyingHeap::new(alloc))?;
+    lengths_over(&rt, alloc, CopyingHeap::new(alloc))?;
     println!(rt; "== few roots")?;
-    let mut few = Store::new(
-        alloc,
-        id_of(6),
-        CopyingHeap::new(alloc),
-        config_of(FEW_ROOTS)?,
-    )?;
-    run_few_roots(&rt, alloc, &mut few)
+    run_few(&rt, alloc)
 }

@@ -1,11 +1,11 @@
 //! Shows entries.
 
-use crate::fault::RunFault;
 use gc_paths::{PathEntry, PathFault, PathParent};
 use gc_store::RootName;
+use run_faults::Result;
 
 /// Shows the root that an entry comes from.
-fn show_root(rt: &impl Print, number: usize, name: RootName, length: u32) -> Result<(), RunFault> {
+fn show_root(rt: &impl Print, number: usize, name: RootName, length: u32) -> Result<()> {
     match name {
         RootName::Global(index) => println!(rt; "{number} global {index}, length {length}")?,
         RootName::Pending => println!(rt; "{number} pending, length {length}")?,
@@ -19,7 +19,7 @@ fn show_root(rt: &impl Print, number: usize, name: RootName, length: u32) -> Res
 }
 
 /// Shows where each object's path comes from, and how long it is.
-pub(crate) fn show_entries(rt: &impl Print, entries: &[PathEntry]) -> Result<(), RunFault> {
+pub(crate) fn show_entries(rt: &impl Print, entries: &[PathEntry]) -> Result<()> {
     for (number, entry) in entries.iter().enumerate() {
         let length = entry.length;
         match entry.parent {
@@ -37,7 +37,7 @@ pub(crate) fn show_report(
     rt: &impl Print,
     name: &str,
     answer: Result<Vec<PathEntry>, PathFault>,
-) -> Result<(), RunFault> {
+) -> Result<()> {
     println!(rt; "{name}")?;
     match answer {
         Ok(entries) => show_entries(rt, &entries),
@@ -53,7 +53,7 @@ pub(crate) fn show_path(
     rt: &impl Print,
     name: &str,
     answer: Result<Option<Vec<PathEntry>>, PathFault>,
-) -> Result<(), RunFault> {
+) -> Result<()> {
     println!(rt; "{name}")?;
     match answer {
         Ok(Some(entries)) => show_entries(rt, &entries),

@@ -1,6 +1,5 @@
 //! What values of raw words tell of themselves.
 
-use crate::fault::RunFault;
 use crate::setup::{declare_types, new_array};
 use gc_heap::{GcHeap, NullHeap};
 use gc_objects::ArrayRef;
@@ -8,12 +7,13 @@ use gc_refs::I31;
 use gc_store::{HeapConfig, Rooted, Store, StoreId};
 use gc_types::{HeapType, ValType};
 use gc_wasm_types::WasmTy;
+use run_faults::{Result, RunFault};
 use std::alloc::Global;
 
 /// The id of a store beside those of the other calls.
 const OTHER: StoreId = StoreId {
-    engine: 0,
-    number: 1,
+    engine: 3,
+    number: 6,
 };
 
 /// Whether values of that type may be null.
@@ -30,7 +30,7 @@ fn show_value<H: GcHeap, T: WasmTy>(
     rt: &impl Print,
     store: &Store<H, u64>,
     value: &T,
-) -> Result<(), RunFault> {
+) -> Result<()> {
     let own = value.compatible_with_store(store);
     let handle = value.is_vmgcref_and_points_to_object();
     let array = value.dynamic_concrete_type_check(store, false, &HeapType::Array);
@@ -44,18 +44,15 @@ fn show_value<H: GcHeap, T: WasmTy>(
 }
 
 /// A handle of an array of another store.
-pub(crate) fn foreign(alloc: Global) -> Result<Rooted<ArrayRef>, RunFault> {
-    let config = HeapConfig::with_pages(1).ok_or(RunFault::Missing)?;
+pub(crate) fn foreign(alloc: Global) -> Result<Rooted<ArrayRef>> {
+    let config = HeapConfig::with_pages(1).ok_or(RunFault::NoConfiguration)?;
     let mut other = Store::<NullHeap, u64>::new(alloc, OTHER, NullHeap::new(alloc), config)?;
     declare_types(&mut other)?;
     new_array(&mut other, &[])
 }
 
 /// Asks an array's scoped handle and its owned one, none, a number, and another store's handle, in this order.
-pub(crate) fn run_asked<H: GcHeap>(
-    rt: &impl Print,
-    store: &mut Store<H, u64>,
-) -> Result<(), RunFault> {
+pub(crate) fn run_asked<H: GcHeap>(rt: &impl Print, store: &mut Store<H, u64>) -> Result<()> {
     let made = new_array(store, &[])?;
     show_value(rt, store, &made)?;
     let owned = made.to_owned_rooted(store)?;

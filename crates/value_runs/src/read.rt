@@ -2,11 +2,11 @@
 
 ghost use Rattle.std.specs.Iterator.{IsFinite};
 
-use crate::fault::RunFault;
-use crate::setup::{function, new_array, new_exception, new_struct};
+use crate::setup::{STRUCT, function, new_array, new_exception, new_struct};
 use gc_heap::GcHeap;
 use gc_objects::{ArrayRef, ExnRef, StructRef, Upcast, Val};
 use gc_store::{Rooted, Store};
+use run_faults::Result;
 
 /// A digit for a value: a number and a function by themselves, 8 for a reference, 9 for null and 0 for any other.
 fn digit_of(value: &Val) -> u64 {
@@ -37,23 +37,16 @@ fn any_of(handle: Rooted<ArrayRef>) -> Val {
 }
 
 /// Shows how many roots were made since so many might still be made.
-fn show_roots<H: GcHeap>(
-    rt: &impl Print,
-    store: &Store<H, u64>,
-    before: u64,
-) -> Result<(), RunFault> {
+fn show_roots<H: GcHeap>(rt: &impl Print, store: &Store<H, u64>, before: u64) -> Result<()> {
     println!(rt; "roots made: {}", before.saturating_sub(store.roots_left()))?;
     Ok(())
 }
 
 /// Reads a struct of a number, a function, null and a 31-bit number, once another function was written.
-pub(crate) fn run_struct<H: GcHeap>(
-    rt: &impl Print,
-    store: &mut Store<H, u64>,
-) -> Result<(), RunFault> {
+pub(crate) fn run_struct<H: GcHeap>(rt: &impl Print, store: &mut Store<H, u64>) -> Result<()> {
     let inner = new_array(store, &[])?;
     let values = [Val::I32(1), function(2)?, Val::AnyRef(None), any_of(inner)];
-    let made = new_struct(store, &values)?;
+    let made = new_struct(store, STRUCT, &values)?;
     let before = store.roots_left();
     let fields = StructRef::fields(store, &made)?;
     let len = fields.len();
@@ -63,10 +56,7 @@ pub(crate) fn run_struct<H: GcHeap>(
 }
 
 /// Reads an array of null, of a reference, and of none.
-pub(crate) fn run_array<H: GcHeap>(
-    rt: &impl Print,
-    store: &mut Store<H, u64>,
-) -> Result<(), RunFault> {
+pub(crate) fn run_array<H: GcHeap>(rt: &impl Print, store: &mut Store<H, u64>) -> Result<()> {
     let inner = new_array(store, &[])?;
     let values = [any_of(inner), Val::AnyRef(None), any_of(inner)];
     let made = new_array(store, &values)?;
@@ -79,10 +69,7 @@ pub(crate) fn run_array<H: GcHeap>(
 }
 
 /// Reads an exception of a number, of a reference, and of null.
-pub(crate) fn run_exception<H: GcHeap>(
-    rt: &impl Print,
-    store: &mut Store<H, u64>,
-) -> Result<(), RunFault> {
+pub(crate) fn run_exception<H: GcHeap>(rt: &impl Print, store: &mut Store<H, u64>) -> Result<()> {
     let inner = new_array(store, &[])?;
     let values = [Val::I32(4), any_of(inner), Val::AnyRef(None)];
     let made = new_exception(store, &values)?;

@@ -2,13 +2,13 @@
 //! up, and those of another store.
 
 use crate::asked::foreign;
-use crate::fault::RunFault;
 use crate::setup::new_array;
 use gc_heap::GcHeap;
 use gc_objects::ArrayRef;
 use gc_refs::ValRaw;
 use gc_store::{OwnedRooted, RootFault, Rooted, RootedGcRef, Store};
 use gc_wasm_types::WasmTy;
+use run_faults::Result;
 use std::hash::{FoldHasher, Hasher};
 
 /// A word that is stored over: that of a 31-bit number, so of no object.
@@ -30,7 +30,7 @@ fn show_stored<H: GcHeap, T: WasmTy>(
     rt: &impl Print,
     store: &mut Store<H, u64>,
     value: &T,
-) -> Result<(), RunFault> {
+) -> Result<()> {
     let mut raw = ValRaw::anyref(OLD_WORD);
     let answer = value.store(store, &mut raw);
     println!(rt;
@@ -42,11 +42,7 @@ fn show_stored<H: GcHeap, T: WasmTy>(
 }
 
 /// Shows what a call answered that feeds a hasher, and whether that stays as it began.
-fn show_hashed(
-    rt: &impl Print,
-    answer: &Result<(), RootFault>,
-    hasher: &FoldHasher,
-) -> Result<(), RunFault> {
+fn show_hashed(rt: &impl Print, answer: &Result<(), RootFault>, hasher: &FoldHasher) -> Result<()> {
     println!(rt;
         "hashed: {}, the hasher stays: {}",
         answer_name(answer),
@@ -60,7 +56,7 @@ fn show_scoped<H: GcHeap>(
     rt: &impl Print,
     store: &mut Store<H, u64>,
     handle: Rooted<ArrayRef>,
-) -> Result<(), RunFault> {
+) -> Result<()> {
     show_stored(rt, store, &handle)?;
     show_stored(rt, store, &Some(handle))?;
     let mut hasher = FoldHasher::default();
@@ -73,7 +69,7 @@ fn show_owned<H: GcHeap>(
     rt: &impl Print,
     store: &mut Store<H, u64>,
     handle: &OwnedRooted<ArrayRef>,
-) -> Result<(), RunFault> {
+) -> Result<()> {
     show_stored(rt, store, handle)?;
     let mut hasher = FoldHasher::default();
     let answer = handle.ref_hash(store, &mut hasher);
@@ -81,10 +77,7 @@ fn show_owned<H: GcHeap>(
 }
 
 /// A handle in a scope of its own, which is left before a further array takes the place of the root.
-pub(crate) fn run_left<H: GcHeap>(
-    rt: &impl Print,
-    store: &mut Store<H, u64>,
-) -> Result<(), RunFault> {
+pub(crate) fn run_left<H: GcHeap>(rt: &impl Print, store: &mut Store<H, u64>) -> Result<()> {
     let scope = store.enter_gc_lifo_scope();
     let left = new_array(store, &[])?;
     show_scoped(rt, store, left)?;
@@ -95,20 +88,14 @@ pub(crate) fn run_left<H: GcHeap>(
 }
 
 /// A handle that is another store's, while a root stands at its place here.
-pub(crate) fn run_foreign<H: GcHeap>(
-    rt: &impl Print,
-    store: &mut Store<H, u64>,
-) -> Result<(), RunFault> {
+pub(crate) fn run_foreign<H: GcHeap>(rt: &impl Print, store: &mut Store<H, u64>) -> Result<()> {
     new_array(store, &[])?;
     let foreign = foreign(store.allocator())?;
     show_scoped(rt, store, foreign)
 }
 
 /// An owned handle whose root is given up.
-pub(crate) fn run_given_up<H: GcHeap>(
-    rt: &impl Print,
-    store: &mut Store<H, u64>,
-) -> Result<(), RunFault> {
+pub(crate) fn run_given_up<H: GcHeap>(rt: &impl Print, store: &mut Store<H, u64>) -> Result<()> {
     let owned = new_array(store, &[])?.to_owned_rooted(store)?;
     show_owned(rt, store, &owned)?;
     store.release(owned.root_index())?;

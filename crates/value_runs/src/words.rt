@@ -1,18 +1,15 @@
 //! References, as a scoped root and as an owned one, and 31-bit numbers as values of raw words.
 
-use crate::fault::RunFault;
 use crate::setup::new_array;
 use gc_heap::GcHeap;
 use gc_objects::ArrayRef;
 use gc_refs::{I31, ValRaw};
 use gc_store::{OwnedRooted, Rooted, Store, ref_eq};
 use gc_wasm_types::WasmTy;
+use run_faults::{Result, RunFault};
 
 /// Stores an array's word and loads it with a scoped root.
-pub(crate) fn run_references<H: GcHeap>(
-    rt: &impl Print,
-    store: &mut Store<H, u64>,
-) -> Result<(), RunFault> {
+pub(crate) fn run_references<H: GcHeap>(rt: &impl Print, store: &mut Store<H, u64>) -> Result<()> {
     let made = new_array(store, &[])?;
     let mut raw = ValRaw::anyref(0);
     let before = store.roots_left();
@@ -25,10 +22,7 @@ pub(crate) fn run_references<H: GcHeap>(
 }
 
 /// Stores an array's word and loads it with an owned root, which makes no scoped one.
-pub(crate) fn run_owned<H: GcHeap>(
-    rt: &impl Print,
-    store: &mut Store<H, u64>,
-) -> Result<(), RunFault> {
+pub(crate) fn run_owned<H: GcHeap>(rt: &impl Print, store: &mut Store<H, u64>) -> Result<()> {
     let made = new_array(store, &[])?;
     let mut raw = ValRaw::anyref(0);
     let before = store.roots_left();
@@ -41,26 +35,20 @@ pub(crate) fn run_owned<H: GcHeap>(
 }
 
 /// Stores a handle that is there as one that may be none, and loads it as such.
-pub(crate) fn run_or_null<H: GcHeap>(
-    rt: &impl Print,
-    store: &mut Store<H, u64>,
-) -> Result<(), RunFault> {
+pub(crate) fn run_or_null<H: GcHeap>(rt: &impl Print, store: &mut Store<H, u64>) -> Result<()> {
     let made = new_array(store, &[])?;
     let mut raw = ValRaw::anyref(0);
     let before = store.roots_left();
     Some(made).store(store, &mut raw)?;
     let found = <Option<Rooted<ArrayRef>>>::load(store, &raw)?;
-    let same = ref_eq(store, &made, &found.ok_or(RunFault::Missing)?)?;
+    let same = ref_eq(store, &made, &found.ok_or(RunFault::NoReference)?)?;
     let pushed = before.saturating_sub(store.roots_left());
     println!(rt; "or null, the same: {same}, roots made: {pushed}")?;
     Ok(())
 }
 
 /// Stores a number and null and loads them, which makes no root.
-pub(crate) fn run_numbers<H: GcHeap>(
-    rt: &impl Print,
-    store: &mut Store<H, u64>,
-) -> Result<(), RunFault> {
+pub(crate) fn run_numbers<H: GcHeap>(rt: &impl Print, store: &mut Store<H, u64>) -> Result<()> {
     let before = store.roots_left();
     let mut raw = ValRaw::anyref(0);
     I31::wrapping_u32(5).store(store, &mut raw)?;

@@ -1,0 +1,7 @@
+use Rattle.maps_runs.proofs.shelf.find.Goals as goal
+
+pub find_by-requires-clause-shelf : goal.find_by-requires-clause-shelf
+find_by-requires-clause-shelf g c = λ own. c.requires
+
+pub returns : goal.returns
+returns g c = c.find_by.ensures.stays

@@ -1,0 +1,67 @@
+//! Subtypes that are asked of, and handles of wider types.
+
+ghost use Rattle.std.specs.Prelude.{◌≡◌};
+
+use crate::setup::{EMPTY, NARROW, UNDECLARED, new_struct};
+use gc_heap::GcHeap;
+use gc_objects::{AnyRef, Upcast};
+use gc_store::{Store, ref_eq};
+use gc_types::VMSharedTypeIndex;
+use run_faults::Result;
+
+/// Asks of a pair, and shows what is kept of it before and after.
+fn ask<H: GcHeap>(
+    rt: &impl Print,
+    store: &mut Store<H, u64>,
+    sub: VMSharedTypeIndex,
+    sup: VMSharedTypeIndex,
+) -> Result<()> {
+    let before = store.cached_subtype(sub, sup);
+    let answer = store.is_subtype_cached(sub, sup);
+    let after = store.cached_subtype(sub, sup);
+    println!(rt; "kept {before:?}, answered {answer}, kept {after:?}")?;
+    Ok(())
+}
+
+/// Asks of a type and its supertype in both orders, and of one that isn't declared.
+pub(crate) fn run_subtypes<H: GcHeap>(rt: &impl Print, store: &mut Store<H, u64>) -> Result<()> {
+    let wide = VMSharedTypeIndex::new(EMPTY);
+    let narrow = VMSharedTypeIndex::new(NARROW);
+    ask(rt, store, narrow, wide)?;
+    ask(rt, store, wide, narrow)?;
+    ask(rt, store, narrow, VMSharedTypeIndex::new(UNDECLARED))
+}
+
+/// Makes a struct, and takes its handles as those of wider types.
+pub(crate) fn run_wide<H: GcHeap>(rt: &impl Print, store: &mut Store<H, u64>) -> Result<()> {
+    let made = new_struct(store, EMPTY, &[])?;
+    let is_struct = AnyRef::as_struct(store, made.to_anyref())?.is_some();
+    let owned = made.to_owned_rooted(store)?.to_eqref();
+    let same = ref_eq(store, &made.to_eqref(), &owned)?;
+    println!(rt; "a struct: {is_struct}, the same: {same}")?;
+    Ok(())
+}
+
+/// A handle as one of any reference of class any.
+fn widened<U: Upcast>(handle: U) -> U::AnyRoot
+    ensures { U.AnyRoot.index result ≡ U.root handle }
+{
+    handle.to_anyref()
+}
+
+/// A handle as one of what can be compared.
+fn comparable<U: Upcast>(handle: U) -> U::EqRoot
+    ensures { U.EqRoot.index result ≡ U.root handle }
+{
+    handle.to_eqref()
+}
+
+/// Makes a struct, and takes its scoped and its owned handles as those of wider types, by what all such handles have.
+pub(crate) fn run_bound<H: GcHeap>(rt: &impl Print, store: &mut Store<H, u64>) -> Result<()> {
+    let made = new_struct(store, EMPTY, &[])?;
+    let owned = made.to_owned_rooted(store)?;
+    let any = ref_eq(store, &widened(made), &made.to_anyref())?;
+    let eq = ref_eq(store, &comparable(made), &comparable(owned))?;
+    println!(rt; "the same, of class any: {any}, compared: {eq}")?;
+    Ok(())
+}
