@@ -5,7 +5,8 @@ ghost use Rattle.gc_store.specs.Collectings.{IsCollected, CountsCollection};
 
 use gc_heap::{GcHeap, GcProgress};
 use gc_steps::Steps;
-use gc_store::{Collecting, GcRootIndex, PageLimit, RootScope, Store};
+use gc_rooted::RootScope;
+use gc_store::{Collecting, GcRootIndex, PageLimit, Store};
 use run_faults::{Result, RunFault};
 use std::marker::Brand;
 use std::sync::ledger::{Blank, Ledger};

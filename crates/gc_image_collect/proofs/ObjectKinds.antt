@@ -14,9 +14,9 @@ use Rattle.gc_model.specs.Stores.{StoreView}
 use Rattle.gc_model.specs.Table.{Table}
 use Rattle.gc_model.specs.Values.{Value, at, Object, struct, array, host, exception}
 use Rattle.gc_model.proofs.HeldObjects.{object_held}
-use Rattle.gc_store.specs.declared.root.GcRootIndex.{GcRootIndex}
-use Rattle.gc_store.specs.declared.root.RootedObject.{RootedObject}
-use Rattle.gc_store.specs.declared.root.RootedObject.TheVariants as rooted
+use Rattle.gc_values.specs.declared.root.GcRootIndex.{GcRootIndex}
+use Rattle.gc_values.specs.declared.root.RootedObject.{RootedObject}
+use Rattle.gc_values.specs.declared.root.RootedObject.TheVariants as rooted
 use Rattle.gc_store.specs.Bytes.{NamesBytes, CanCopyBytes}
 use Rattle.gc_store.specs.Roots.{IsObject}
 use Rattle.gc_store.proofs.HandleWords.{named_held}

@@ -13,9 +13,9 @@ use Rattle.gc_model.specs.Table.{Slot, Table, push}
 use Rattle.gc_model.specs.Values.{Reference, null, small, at, reference}
 use Rattle.gc_model.proofs.Lists.{slice_get-push_cases}
 use Rattle.gc_policy.specs.Accounts.{Account, HoldsAccount}
-use Rattle.gc_store.specs.declared.root.GcRootIndex.{GcRootIndex}
-use Rattle.gc_store.specs.declared.root.RawValue.{RawValue}
-use Rattle.gc_store.specs.declared.root.RawValue.TheVariants as raw
+use Rattle.gc_values.specs.declared.root.GcRootIndex.{GcRootIndex}
+use Rattle.gc_values.specs.declared.root.RawValue.{RawValue}
+use Rattle.gc_values.specs.declared.root.RawValue.TheVariants as raw
 use Rattle.gc_store.specs.Roots.{NamesReference, handle_of}
 use Rattle.gc_store.specs.Slots.{HandleStands}
 use Rattle.gc_store.specs.Stores.{IsSameStore}

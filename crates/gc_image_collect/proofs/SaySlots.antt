@@ -14,9 +14,9 @@ use Rattle.gc_model.specs.Table.{Slot, Table, empty_slot}
 use Rattle.gc_model.specs.Values.{Reference, null, at}
 use Rattle.gc_model.proofs.Lists.{slice_get-push_cases, slice_get-push_old, slice_get-push_new}
 use Rattle.gc_model.proofs.Words.{word_names}
-use Rattle.gc_store.specs.declared.root.GcRootIndex.{GcRootIndex}
+use Rattle.gc_values.specs.declared.root.GcRootIndex.{GcRootIndex}
 use Rattle.gc_store.specs.Roots.{NamesReference}
-use Rattle.gc_store.specs.declared.root.RawValue.TheVariants as raw
+use Rattle.gc_values.specs.declared.root.RawValue.TheVariants as raw
 use Rattle.gc_store.specs.Slots.{HandleStands, slot_value}
 use Rattle.gc_store.specs.Values.{NamesLive}
 use Rattle.gc_store.proofs.HandleWords.{finds_word, live_has_word, named_held, named_word}

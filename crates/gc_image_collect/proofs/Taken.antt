@@ -11,7 +11,7 @@ use Rattle.gc_model.specs.Stores.{StoreView}
 use Rattle.gc_model.proofs.Lists.{slice_get-push_old, slice_get-push_new, slice_get-push_cases}
 use Rattle.gc_model.proofs.Members.{get_contains, contains_get}
 use Rattle.gc_policy.proofs.HeldSums.{distinct_push}
-use Rattle.gc_store.specs.declared.root.GcRootIndex.{GcRootIndex}
+use Rattle.gc_values.specs.declared.root.GcRootIndex.{GcRootIndex}
 use Rattle.gc_store.specs.Roots.{NamesReference}
 use Rattle.gc_paths.specs.Progress.{Basis}
 use Rattle.gc_image.specs.declared.image.ImageReference.{ImageReference}

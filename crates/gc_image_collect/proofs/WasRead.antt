@@ -12,11 +12,11 @@ use Rattle.gc_model.specs.Live.{roots_full}
 use Rattle.gc_model.specs.Stores.{StoreView}
 use Rattle.gc_model.specs.Holds.{HoldsTable}
 use Rattle.gc_policy.specs.Accounts.{HoldsAccount}
-use Rattle.gc_store.specs.declared.root.GcRootIndex.{GcRootIndex}
-use Rattle.gc_store.specs.declared.root.RawValue.{RawValue}
-use Rattle.gc_store.specs.declared.root.RawValue.TheVariants as raw
-use Rattle.gc_store.specs.declared.root.RootFault.{RootFault}
-use Rattle.gc_store.specs.declared.root.RootFault.TheVariants as fault
+use Rattle.gc_values.specs.declared.root.GcRootIndex.{GcRootIndex}
+use Rattle.gc_values.specs.declared.root.RawValue.{RawValue}
+use Rattle.gc_values.specs.declared.root.RawValue.TheVariants as raw
+use Rattle.gc_values.specs.declared.root.RootFault.{RootFault}
+use Rattle.gc_values.specs.declared.root.RootFault.TheVariants as fault
 use Rattle.gc_store.specs.OwnedWords.{HoldsThere}
 use Rattle.gc_store.specs.Roots.{NamesReference, HasValue, CanRead, handle_of}
 use Rattle.gc_store.specs.Stores.{IsSameStore}

@@ -7,8 +7,8 @@ use Rattle.gc_model.specs.Table.{Table, Slot, empty_slot, global_count}
 use Rattle.gc_policy.specs.Accounts.{Account, HoldsAccount}
 use Rattle.gc_store.specs.declared.globals.SlotFault.{SlotFault}
 use Rattle.gc_store.specs.declared.globals.SlotFault.TheVariants as slot_fault
-use Rattle.gc_store.specs.declared.root.RawValue.TheVariants as raw
-use Rattle.gc_store.specs.declared.root.RootFault.TheVariants as root
+use Rattle.gc_values.specs.declared.root.RawValue.TheVariants as raw
+use Rattle.gc_values.specs.declared.root.RootFault.TheVariants as root
 use Rattle.gc_store.specs.Slots.{HandleStands, slot_value}
 use Rattle.gc_store.specs.Values.{ReadsValue}
 use Rattle.gc_paths.specs.Answers.{LacksRoots}

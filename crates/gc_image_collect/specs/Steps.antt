@@ -10,11 +10,11 @@ use Rattle.gc_model.specs.Table.{Table}
 use Rattle.gc_model.specs.Values.{Object, Reference, Value, at, null, small, struct, array, host, exception}
 use Rattle.gc_model.specs.Words.{Placing}
 use Rattle.std.specs.List.{AllByRecursion, Contains}
-use Rattle.gc_store.specs.declared.root.GcRootIndex.{GcRootIndex}
-use Rattle.gc_store.specs.declared.root.RootFault.{RootFault}
-use Rattle.gc_store.specs.declared.root.RootFault.TheVariants as root
-use Rattle.gc_store.specs.declared.root.RootedObject.{RootedObject}
-use Rattle.gc_store.specs.declared.root.RootedObject.TheVariants as rooted
+use Rattle.gc_values.specs.declared.root.GcRootIndex.{GcRootIndex}
+use Rattle.gc_values.specs.declared.root.RootFault.{RootFault}
+use Rattle.gc_values.specs.declared.root.RootFault.TheVariants as root
+use Rattle.gc_values.specs.declared.root.RootedObject.{RootedObject}
+use Rattle.gc_values.specs.declared.root.RootedObject.TheVariants as rooted
 use Rattle.gc_store.specs.Bytes.{CopiesBytes}
 use Rattle.gc_store.specs.Roots.{IsObject}
 use Rattle.gc_paths.specs.Answers.{LacksRoots}

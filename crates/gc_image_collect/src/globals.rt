@@ -4,7 +4,7 @@ ghost use Rattle.std.specs.Prelude.{◌≡◌, ℕ, List, [], Some, length};
 ghost use Rattle.gc_model.specs.Globals.{global_at};
 ghost use Rattle.gc_model.specs.Table.{Slot, Table};
 ghost use Rattle.gc_policy.specs.Accounts.{Account, HoldsAccount};
-ghost use Rattle.gc_store.specs.declared.root.RawValue.TheVariants as raw;
+ghost use Rattle.gc_values.specs.declared.root.RawValue.TheVariants as raw;
 ghost use Rattle.gc_store.specs.Slots.{slot_value};
 ghost use Rattle.gc_store.specs.Stores.{IsSameStore};
 ghost use Rattle.gc_store.specs.Values.{NamesLive};

@@ -4,7 +4,7 @@ ghost use Rattle.std.specs.Prelude.{◌≡◌, ℕ, List};
 ghost use Rattle.gc_model.specs.Holds.{Holds, Placing};
 ghost use Rattle.gc_model.specs.Table.{Table};
 ghost use Rattle.gc_model.specs.Values.{Reference, Value, reference};
-ghost use Rattle.gc_store.specs.declared.root.RawValue.TheVariants as raw;
+ghost use Rattle.gc_values.specs.declared.root.RawValue.TheVariants as raw;
 ghost use Rattle.gc_store.specs.Roots.{NamesReference};
 ghost use Rattle.gc_store.specs.Slots.{HandleStands};
 ghost use Rattle.gc_store.specs.Values.{IsLive, NamesLive, RawStands};

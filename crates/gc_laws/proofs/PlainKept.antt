@@ -17,7 +17,7 @@ use Rattle.gc_model.specs.OwnedRoots as owned_roots
 use Rattle.gc_model.specs.OwnedRoots.{owned_among, handles_changed}
 use Rattle.gc_model.specs.Stored.{stored}
 use Rattle.gc_model.proofs.Changes.{length-change_at}
-use Rattle.gc_store.proofs.GoneRoots.{gone_push, gone_take, below_differs}
+use Rattle.gc_rooted.proofs.GoneRoots.{gone_push, gone_take, below_differs}
 use Rattle.gc_commands.specs.declared.command.Command.{Command}
 use Rattle.gc_commands.specs.declared.command.Command.TheVariants.{Bad, ReadBytes, I31, Field, Elem, Len, HostNumber, SetField, SetElem, Eq, Enter, Leave, Push, Pop, Store, Load, SetGlobal, GetGlobal, Own, Root, Unroot, Throw, Take}
 use Rattle.gc_script.specs.State.{State, number, reference, HeldOwned, owned, unrooted, with_table}

@@ -28,7 +28,7 @@ use Rattle.gc_script.specs.Shapes as shapes
 use Rattle.gc_script.specs.Steps as steps
 use Rattle.gc_script.specs.Steps.{Step, Answers, Does, MakesNew, first_failing, tests}
 use Rattle.gc_script.specs.Run.{Run}
-use Rattle.gc_store.specs.declared.root.GcRootIndex.{GcRootIndex}
+use Rattle.gc_values.specs.declared.root.GcRootIndex.{GcRootIndex}
 use Rattle.gc_lists.specs.Versions.{Stands, VersionNames}
 
 -- There is an owned root of that number, which names that.

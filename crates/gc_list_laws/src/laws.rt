@@ -8,7 +8,7 @@ ghost use Rattle.gc_model.specs.Holds.{HoldsTable};
 ghost use Rattle.gc_model.specs.OwnedRoots.{owned_reference};
 ghost use Rattle.gc_model.specs.Stores.{StoreView};
 ghost use Rattle.gc_model.specs.Values.{Reference};
-ghost use Rattle.gc_store.specs.declared.root.GcRootIndex.{GcRootIndex};
+ghost use Rattle.gc_values.specs.declared.root.GcRootIndex.{GcRootIndex};
 ghost use Rattle.gc_lists.specs.Constants.{KeepsConstants};
 ghost use Rattle.gc_lists.specs.Lists.{IsList};
 ghost use Rattle.gc_lists.specs.Versions.{StandsForListOf, VersionNames};

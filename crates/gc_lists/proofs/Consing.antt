@@ -26,13 +26,13 @@ use Rattle.gc_model.specs.Stores.{StoreView}
 use Rattle.gc_model.specs.Holds.{HoldsTable}
 use Rattle.gc_policy.specs.Accounts.{Account, HoldsAccount, with_held}
 use Rattle.gc_policy.specs.Policy.{PolicyState, policy_state}
-use Rattle.gc_store.specs.declared.root.GcRootIndex.{GcRootIndex}
-use Rattle.gc_store.specs.declared.root.RawValue.{RawValue}
-use Rattle.gc_store.specs.declared.root.RawValue.TheVariants as raw
+use Rattle.gc_values.specs.declared.root.GcRootIndex.{GcRootIndex}
+use Rattle.gc_values.specs.declared.root.RawValue.{RawValue}
+use Rattle.gc_values.specs.declared.root.RawValue.TheVariants as raw
 use Rattle.gc_store.specs.Requests.{CanPlaceFields, fields_of}
 use Rattle.gc_store.specs.Places.{Places, PlacesObject, MayGetPages, bytes_of, lacks_ids}
-use Rattle.gc_store.specs.declared.store.GcHeapOutOfMemory.{GcHeapOutOfMemory}
-use Rattle.gc_store.specs.declared.store.PlaceFault.TheVariants as place_fault
+use Rattle.gc_values.specs.declared.faults.GcHeapOutOfMemory.{GcHeapOutOfMemory}
+use Rattle.gc_values.specs.declared.faults.PlaceFault.TheVariants as place_fault
 use Rattle.gc_lists.specs.declared.list.HeapList.{HeapList}
 use Rattle.gc_store.specs.Roots.{NamesReference, NamesOwned}
 use Rattle.gc_store.specs.Values.{RawStands, AllStand, CanStore, NamesLive}

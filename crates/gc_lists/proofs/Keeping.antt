@@ -6,9 +6,9 @@ use Rattle.gc_model.specs.Table.{Table, leave}
 use Rattle.gc_model.specs.OwnedRoots.{own}
 use Rattle.gc_model.specs.Stores.{StoreView}
 use Rattle.gc_policy.specs.Accounts.{Account, HoldsAccount}
-use Rattle.gc_store.specs.declared.root.GcRootIndex.{GcRootIndex}
-use Rattle.gc_store.specs.declared.root.RootFault.{RootFault}
-use Rattle.gc_store.specs.declared.root.RootFault.TheVariants as fault
+use Rattle.gc_values.specs.declared.root.GcRootIndex.{GcRootIndex}
+use Rattle.gc_values.specs.declared.root.RootFault.{RootFault}
+use Rattle.gc_values.specs.declared.root.RootFault.TheVariants as fault
 use Rattle.gc_store.specs.OwnedRoots.{MakesOwned}
 use Rattle.gc_store.specs.Roots.{owned_handle, NamesReference}
 use Rattle.gc_store.specs.Stores.{IsSameStore}

@@ -17,7 +17,7 @@ use Rattle.gc_model.specs.Holds.{Placing, IsWord, Holds, Names, naming, Stands}
 use Rattle.gc_model.proofs.Words.{place_even}
 use Rattle.gc_types.specs.declared.kind.VMGcKind.TheVariants.{StructRef}
 use Rattle.gc_view.specs.Heaps.{HeapObject}
-use Rattle.gc_store.specs.declared.root.GcRootIndex.{GcRootIndex}
+use Rattle.gc_values.specs.declared.root.GcRootIndex.{GcRootIndex}
 use Rattle.gc_store.specs.Roots.{NamesReference}
 use Rattle.gc_store.proofs.HandleWords.{live_has_word, named_word}
 use Rattle.gc_model.proofs.HeldObjects.{object_held}

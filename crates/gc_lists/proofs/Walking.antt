@@ -14,14 +14,15 @@ use Rattle.gc_model.specs.Stores.{StoreView}
 use Rattle.gc_model.specs.Holds.{HoldsTable}
 use Rattle.gc_policy.specs.Accounts.{Account, HoldsAccount}
 use Rattle.gc_policy.proofs.AccountLemmas.{some_account}
-use Rattle.gc_store.specs.declared.root.GcRootIndex.{GcRootIndex}
-use Rattle.gc_store.specs.declared.root.RawValue.{RawValue}
-use Rattle.gc_store.specs.declared.root.RootFault.{RootFault}
-use Rattle.gc_store.specs.declared.root.RootFault.TheVariants as root_fault
+use Rattle.gc_values.specs.declared.root.GcRootIndex.{GcRootIndex}
+use Rattle.gc_values.specs.declared.root.RawValue.{RawValue}
+use Rattle.gc_values.specs.declared.root.RootFault.{RootFault}
+use Rattle.gc_values.specs.declared.root.RootFault.TheVariants as root_fault
 use Rattle.gc_store.specs.Roots.{NamesReference, handle_of}
 use Rattle.gc_store.specs.Slots.{HandleStands}
 use Rattle.gc_store.specs.Stores.{IsSameStore}
-use Rattle.gc_store.specs.Values.{ReadsValue, raw_handle}
+use Rattle.gc_store.specs.Values.{ReadsValue}
+use Rattle.gc_values.specs.RawValues.{raw_handle}
 use Rattle.gc_lists.specs.declared.fault.ListFault.{ListFault}
 use Rattle.gc_lists.specs.declared.fault.ListFault.TheVariants as fault
 use Rattle.gc_lists.specs.Answers.{Copied, FailsToCopy}

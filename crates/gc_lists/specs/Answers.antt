@@ -9,7 +9,7 @@ use Rattle.gc_model.specs.Allocation.{Limits}
 use Rattle.gc_model.specs.Stores.{StoreView}
 use Rattle.gc_policy.specs.Accounts.{Account, HoldsAccount}
 use Rattle.gc_policy.specs.Policy.{PolicyState}
-use Rattle.gc_store.specs.declared.root.GcRootIndex.{GcRootIndex}
+use Rattle.gc_values.specs.declared.root.GcRootIndex.{GcRootIndex}
 use Rattle.gc_store.specs.OwnedRoots.{DropsHandle}
 use Rattle.gc_store.specs.Places.{LacksPlace}
 use Rattle.gc_store.specs.Roots.{owned_handle}

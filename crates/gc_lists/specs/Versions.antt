@@ -5,7 +5,7 @@ use Rattle.gc_model.specs.Values.{Reference, null}
 use Rattle.gc_model.specs.Table.{Table}
 use Rattle.gc_model.specs.Stores.{StoreView}
 use Rattle.gc_model.specs.Holds.{HoldsTable}
-use Rattle.gc_store.specs.declared.root.GcRootIndex.{GcRootIndex}
+use Rattle.gc_values.specs.declared.root.GcRootIndex.{GcRootIndex}
 use Rattle.gc_store.specs.Roots.{is_of_store, NamesOwned}
 use Rattle.gc_lists.specs.Lists.{IsList, IsListOf}
 

@@ -15,9 +15,9 @@ use Rattle.gc_owner.specs.declared.entry.GcClass.{GcClass}
 use Rattle.gc_policy.specs.Accounts.{Account, HoldsAccount}
 use Rattle.gc_store.specs.declared.globals.SlotFault.{SlotFault}
 use Rattle.gc_store.specs.declared.globals.SlotFault.TheVariants as slot_fault
-use Rattle.gc_store.specs.declared.root.GcRootIndex.{GcRootIndex}
-use Rattle.gc_store.specs.declared.root.RawValue.{RawValue}
-use Rattle.gc_store.specs.declared.root.RawValue.TheVariants as raw
+use Rattle.gc_values.specs.declared.root.GcRootIndex.{GcRootIndex}
+use Rattle.gc_values.specs.declared.root.RawValue.{RawValue}
+use Rattle.gc_values.specs.declared.root.RawValue.TheVariants as raw
 use Rattle.gc_store.specs.Roots.{NamesReference}
 use Rattle.gc_store.specs.Slots.{HandleStands, SetsSlot}
 use Rattle.gc_store.specs.Values.{RawStands}

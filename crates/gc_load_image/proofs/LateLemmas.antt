@@ -16,13 +16,13 @@ use Rattle.gc_model.specs.Values.{Reference, at, Value, reference, Object}
 use Rattle.gc_model.proofs.Changes.{length-change_at, slice_get-change_at_other, slice_get-change_at_same, slice_get-set_other, slice_get-set_same}
 use Rattle.gc_owner.specs.declared.entry.GcClass.{GcClass}
 use Rattle.gc_policy.specs.Accounts.{Account, HoldsAccount}
-use Rattle.gc_store.specs.declared.root.GcRootIndex.{GcRootIndex}
-use Rattle.gc_store.specs.declared.root.RawValue.{RawValue}
-use Rattle.gc_store.specs.declared.root.RawValue.TheVariants as raw
+use Rattle.gc_values.specs.declared.root.GcRootIndex.{GcRootIndex}
+use Rattle.gc_values.specs.declared.root.RawValue.{RawValue}
+use Rattle.gc_values.specs.declared.root.RawValue.TheVariants as raw
 use Rattle.gc_store.specs.Roots.{HasValue, NamesReference}
 use Rattle.gc_store.specs.Stores.{IsSameStore}
 use Rattle.gc_store.specs.Values.{CanWrite, KeepsValue, RawStands, WritesValue}
-use Rattle.gc_store.specs.declared.write.WriteFault.{WriteFault}
+use Rattle.gc_values.specs.declared.faults.WriteFault.{WriteFault}
 use Rattle.std.specs.Prelude.{IsOk}
 use Rattle.gc_image.specs.declared.image.ImageReference.TheVariants as image_reference
 use Rattle.gc_image.specs.declared.image.ImageValue.{ImageValue}

@@ -16,7 +16,7 @@ use Rattle.gc_model.specs.Stores.{StoreView}
 use Rattle.gc_model.specs.Table.{Table}
 use Rattle.gc_model.specs.Values.{Value, struct, array, exception}
 use Rattle.gc_model.proofs.Lists.{slice_get-same_length}
-use Rattle.gc_store.specs.declared.root.RawValue.{RawValue}
+use Rattle.gc_values.specs.declared.root.RawValue.{RawValue}
 use Rattle.gc_store.specs.Requests.{CanPlaceFields, element_of, exn_fields_of, fields_of, stored_as}
 use Rattle.gc_store.specs.Values.{AllStand, CanStore}
 use Rattle.gc_image.specs.declared.image.ImageValue.{ImageValue}

@@ -28,7 +28,7 @@ use Rattle.gc_owner.specs.Limiters.{Refuses}
 use Rattle.gc_policy.specs.Accounts.{Account, HoldsAccount, with_held}
 use Rattle.gc_policy.specs.Policy.{PolicyState, policy_state}
 use Rattle.gc_policy.proofs.CollectedKept.{reached_placed}
-use Rattle.gc_store.specs.declared.root.GcRootIndex.{GcRootIndex}
+use Rattle.gc_values.specs.declared.root.GcRootIndex.{GcRootIndex}
 use Rattle.gc_store.specs.Places.{LacksPlace, PlacesObject, RefusesPlace, WantsPlace}
 use Rattle.gc_store.specs.Roots.{NamesReference}
 use Rattle.gc_store.specs.Stores.{IsSameStore}

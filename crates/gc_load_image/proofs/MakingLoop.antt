@@ -11,7 +11,7 @@ use Rattle.gc_types.specs.Declarations.{Declaration}
 use Rattle.gc_model.specs.Allocation.{Limits, MayRefuse, asked}
 use Rattle.gc_model.specs.Stores.{StoreView}
 use Rattle.gc_model.specs.Table.{Table}
-use Rattle.gc_store.specs.declared.root.GcRootIndex.{GcRootIndex}
+use Rattle.gc_values.specs.declared.root.GcRootIndex.{GcRootIndex}
 use Rattle.gc_image.specs.declared.image.ObjectLine.{ObjectLine}
 use Rattle.gc_image.specs.Well.{line_values}
 use Rattle.gc_load_image.specs.declared.fault.LoadFault.{LoadFault}

@@ -10,7 +10,7 @@ use Rattle.gc_model.specs.Values.{Value, Object, array}
 use Rattle.gc_policy.specs.Accounts.{Account, HoldsAccount}
 use Rattle.gc_policy.specs.Policy.{PolicyState}
 use Rattle.gc_store.specs.declared.hosts.PlaceHostFault.{PlaceHostFault}
-use Rattle.gc_store.specs.declared.store.PlaceFault.{PlaceFault}
+use Rattle.gc_values.specs.declared.faults.PlaceFault.{PlaceFault}
 use Rattle.gc_store.specs.HostPlaces.{PlacesHost}
 use Rattle.gc_store.specs.Places.{Places, RefusesPlace, bytes_of}
 use Rattle.gc_load_image.specs.declared.fault.LoadFault.TheVariants as fault

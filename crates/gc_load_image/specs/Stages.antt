@@ -18,10 +18,10 @@ use Rattle.gc_model.specs.Words.{Placing}
 use Rattle.gc_owner.specs.declared.entry.GcClass.{GcClass}
 use Rattle.gc_policy.specs.Accounts.{Account, HoldsAccount}
 use Rattle.gc_policy.specs.Policy.{PolicyState}
-use Rattle.gc_store.specs.declared.root.GcRootIndex.{GcRootIndex}
-use Rattle.gc_store.specs.declared.root.RawValue.{RawValue}
-use Rattle.gc_store.specs.declared.root.RootFault.{RootFault}
-use Rattle.gc_store.specs.declared.root.RootFault.TheVariants as root_fault
+use Rattle.gc_values.specs.declared.root.GcRootIndex.{GcRootIndex}
+use Rattle.gc_values.specs.declared.root.RawValue.{RawValue}
+use Rattle.gc_values.specs.declared.root.RootFault.{RootFault}
+use Rattle.gc_values.specs.declared.root.RootFault.TheVariants as root_fault
 use Rattle.gc_store.specs.Places.{PlacesObject, LacksPlace, WantsPlace, RefusesPlace, bytes_of}
 use Rattle.gc_store.specs.Requests.{CanPlaceStruct, CanPlaceException, CanPlaceElements, CanPlaceBytes, fields_of, exn_fields_of, element_of}
 use Rattle.gc_store.specs.Roots.{NamesReference}

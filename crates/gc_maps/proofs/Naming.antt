@@ -13,11 +13,11 @@ use Rattle.gc_model.specs.Stores.{StoreView}
 use Rattle.gc_model.specs.Holds.{HoldsTable}
 use Rattle.gc_model.proofs.Lists.{slice_get-push_new}
 use Rattle.gc_policy.specs.Accounts.{Account, HoldsAccount}
-use Rattle.gc_store.specs.declared.root.GcRootIndex.{GcRootIndex}
-use Rattle.gc_store.specs.declared.root.RootSlot.TheVariants as slot
+use Rattle.gc_values.specs.declared.root.GcRootIndex.{GcRootIndex}
+use Rattle.gc_values.specs.declared.root.RootSlot.TheVariants as slot
 use Rattle.gc_store.specs.Roots.{handle_of, owned_handle, NamesReference}
 use Rattle.gc_store.specs.Stores.{IsSameStore}
-use Rattle.gc_store.specs.Words.{owned_id}
+use Rattle.gc_values.specs.Words.{owned_id}
 use Rattle.gc_lists.specs.Cells.{IsNode}
 use Rattle.gc_maps.specs.declared.part.Part.{Part}
 use Rattle.gc_maps.specs.Trees.{Tree, leaf, node, height}

@@ -23,12 +23,12 @@ use Rattle.gc_model.specs.Holds.{HoldsTable}
 use Rattle.gc_model.proofs.Lists.{slice_get-push_new}
 use Rattle.gc_policy.specs.Accounts.{Account, HoldsAccount, with_held}
 use Rattle.gc_policy.specs.Policy.{policy_state}
-use Rattle.gc_store.specs.declared.root.GcRootIndex.{GcRootIndex}
-use Rattle.gc_store.specs.declared.root.RawValue.{RawValue}
-use Rattle.gc_store.specs.declared.root.RawValue.TheVariants as raw
-use Rattle.gc_store.specs.declared.store.GcHeapOutOfMemory.{GcHeapOutOfMemory}
-use Rattle.gc_store.specs.declared.store.PlaceFault.{PlaceFault}
-use Rattle.gc_store.specs.declared.store.PlaceFault.TheVariants as place_fault
+use Rattle.gc_values.specs.declared.root.GcRootIndex.{GcRootIndex}
+use Rattle.gc_values.specs.declared.root.RawValue.{RawValue}
+use Rattle.gc_values.specs.declared.root.RawValue.TheVariants as raw
+use Rattle.gc_values.specs.declared.faults.GcHeapOutOfMemory.{GcHeapOutOfMemory}
+use Rattle.gc_values.specs.declared.faults.PlaceFault.{PlaceFault}
+use Rattle.gc_values.specs.declared.faults.PlaceFault.TheVariants as place_fault
 use Rattle.gc_store.specs.Requests.{CanPlaceFields, fields_of}
 use Rattle.gc_store.specs.Places.{Places, MayGetPages, RefusesPlace}
 use Rattle.gc_store.specs.Roots.{NamesReference}

@@ -7,13 +7,14 @@ use Rattle.gc_model.specs.Values.{Reference, null, small, at, numeric, reference
 use Rattle.gc_model.specs.Table.{Table, push}
 use Rattle.gc_model.specs.Stores.{StoreView}
 use Rattle.gc_policy.specs.Accounts.{Account, HoldsAccount}
-use Rattle.gc_store.specs.declared.root.GcRootIndex.{GcRootIndex}
-use Rattle.gc_store.specs.declared.root.RawValue.{RawValue}
-use Rattle.gc_store.specs.declared.root.RawValue.TheVariants as raw
-use Rattle.gc_store.specs.declared.root.RootFault.{RootFault}
-use Rattle.gc_store.specs.declared.root.RootFault.TheVariants as root
+use Rattle.gc_values.specs.declared.root.GcRootIndex.{GcRootIndex}
+use Rattle.gc_values.specs.declared.root.RawValue.{RawValue}
+use Rattle.gc_values.specs.declared.root.RawValue.TheVariants as raw
+use Rattle.gc_values.specs.declared.root.RootFault.{RootFault}
+use Rattle.gc_values.specs.declared.root.RootFault.TheVariants as root
 use Rattle.gc_store.specs.Roots.{handle_of}
-use Rattle.gc_store.specs.Values.{ReadsValue, raw_handle}
+use Rattle.gc_store.specs.Values.{ReadsValue}
+use Rattle.gc_values.specs.RawValues.{raw_handle}
 use Rattle.gc_lists.specs.Cells.{number_in, number_of}
 use Rattle.gc_lists.specs.Faults.{refused}
 use Rattle.gc_maps.specs.Ends.{EndsReading}

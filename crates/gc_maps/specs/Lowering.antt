@@ -9,7 +9,7 @@ use Rattle.gc_model.specs.Holds.{HoldsTable}
 use Rattle.gc_lists.specs.declared.fault.ListFault.{ListFault}
 use Rattle.gc_lists.specs.declared.kit.Kit.{Kit}
 use Rattle.gc_lists.specs.Kits.{IsNodeType}
-use Rattle.gc_store.specs.declared.root.GcRootIndex.{GcRootIndex}
+use Rattle.gc_values.specs.declared.root.GcRootIndex.{GcRootIndex}
 use Rattle.gc_maps.specs.declared.part.Opened.{Opened}
 use Rattle.gc_maps.specs.declared.part.Part.{Part}
 use Rattle.gc_maps.specs.Ends.{Ends}

@@ -8,7 +8,7 @@ use Rattle.gc_model.specs.Values.{Reference, null, Object}
 use Rattle.gc_model.specs.Table.{Table}
 use Rattle.gc_model.specs.Stores.{StoreView}
 use Rattle.gc_model.specs.Holds.{HoldsTable}
-use Rattle.gc_store.specs.declared.root.GcRootIndex.{GcRootIndex}
+use Rattle.gc_values.specs.declared.root.GcRootIndex.{GcRootIndex}
 use Rattle.gc_lists.specs.Cells.{IsNode}
 use Rattle.gc_lists.specs.Versions.{Stands, is_version_of}
 use Rattle.gc_maps.specs.Trees.{Tree, leaf, node, height, pairs, IsBalanced}

@@ -7,7 +7,7 @@ ghost use Rattle.gc_model.specs.Stores.{StoreView};
 ghost use Rattle.gc_model.specs.Table.{Owned, Table};
 ghost use Rattle.gc_model.specs.Values.{Reference};
 ghost use Rattle.gc_store.specs.Stores.{IsSameStore};
-ghost use Rattle.gc_store.specs.declared.root.GcRootIndex.{GcRootIndex};
+ghost use Rattle.gc_values.specs.declared.root.GcRootIndex.{GcRootIndex};
 ghost use Rattle.gc_lists.specs.Constants.{KeepsConstants};
 ghost use Rattle.gc_maps.specs.Maps.{IntMap, IsMap, StandsForMapOf};
 

@@ -16,9 +16,9 @@ use Rattle.gc_model.specs.Table.{Table}
 use Rattle.gc_model.specs.Stores.{StoreView}
 use Rattle.gc_policy.specs.Accounts.{Account, HoldsAccount}
 use Rattle.gc_policy.specs.Policy.{policy_state}
-use Rattle.gc_store.specs.declared.root.GcRootIndex.{GcRootIndex}
-use Rattle.gc_store.specs.declared.root.RawValue.{RawValue}
-use Rattle.gc_store.specs.declared.rooted.Rooted.{Rooted}
+use Rattle.gc_values.specs.declared.root.GcRootIndex.{GcRootIndex}
+use Rattle.gc_values.specs.declared.root.RawValue.{RawValue}
+use Rattle.gc_rooted.specs.declared.rooted.Rooted.{Rooted}
 use Rattle.gc_store.specs.Places.{RefusesPlace}
 use Rattle.gc_store.specs.Requests.{CanPlaceElements, CanPlaceSame, CanPlaceBytes, IsFilled, element_of}
 use Rattle.gc_store.specs.Values.{RawStands}

@@ -7,9 +7,9 @@ use Rattle.gc_model.specs.Live.{rooted_among}
 use Rattle.gc_model.specs.Reads.{after_read}
 use Rattle.gc_model.specs.Stores.{StoreView}
 use Rattle.gc_model.proofs.Lists.{slice_get-push_old}
-use Rattle.gc_store.specs.declared.root.GcRootIndex.{GcRootIndex}
-use Rattle.gc_store.specs.declared.root.RootSlot.TheVariants as slot
-use Rattle.gc_store.specs.Words.{owned_id}
+use Rattle.gc_values.specs.declared.root.GcRootIndex.{GcRootIndex}
+use Rattle.gc_values.specs.declared.root.RootSlot.TheVariants as slot
+use Rattle.gc_values.specs.Words.{owned_id}
 use Rattle.gc_store.specs.Roots.{NamesReference, handle_of}
 use Rattle.gc_store.specs.Stores.{IsSameStore}
 

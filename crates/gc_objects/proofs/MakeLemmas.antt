@@ -18,10 +18,10 @@ use Rattle.gc_model.proofs.Lists.{slice_get-push_new}
 use Rattle.gc_model.proofs.StoredValues.{mapped_from}
 use Rattle.gc_policy.specs.Accounts.{Account, HoldsAccount, with_held}
 use Rattle.gc_policy.specs.Policy.{PolicyState, policy_state, not_begun}
-use Rattle.gc_store.specs.declared.root.GcRootIndex.{GcRootIndex}
-use Rattle.gc_store.specs.declared.root.RawValue.{RawValue}
-use Rattle.gc_store.specs.declared.rooted.Rooted.{Rooted}
-use Rattle.gc_store.specs.declared.store.PlaceFault.TheVariants as place
+use Rattle.gc_values.specs.declared.root.GcRootIndex.{GcRootIndex}
+use Rattle.gc_values.specs.declared.root.RawValue.{RawValue}
+use Rattle.gc_rooted.specs.declared.rooted.Rooted.{Rooted}
+use Rattle.gc_values.specs.declared.faults.PlaceFault.TheVariants as place
 use Rattle.gc_store.specs.Places.{Places, PlacesObject, RefusesPlace}
 use Rattle.gc_store.specs.Requests.{CanPlaceStruct, CanPlaceElements}
 use Rattle.gc_store.specs.Roots.{NamesScoped}

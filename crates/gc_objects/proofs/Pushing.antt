@@ -7,9 +7,9 @@ use Rattle.gc_model.specs.Table.{Table, push}
 use Rattle.gc_model.specs.Stores.{StoreView}
 use Rattle.gc_model.specs.Holds.{HoldsTable}
 use Rattle.gc_policy.specs.Accounts.{Account, HoldsAccount}
-use Rattle.gc_store.specs.declared.root.GcRootIndex.{GcRootIndex}
-use Rattle.gc_store.specs.declared.root.RootFault.{RootFault}
-use Rattle.gc_store.specs.declared.rooted.Rooted.{Rooted}
+use Rattle.gc_values.specs.declared.root.GcRootIndex.{GcRootIndex}
+use Rattle.gc_values.specs.declared.root.RootFault.{RootFault}
+use Rattle.gc_rooted.specs.declared.rooted.Rooted.{Rooted}
 use Rattle.gc_store.specs.Handles.{PushesRoot}
 use Rattle.gc_store.specs.Roots.{NamesScoped}
 use Rattle.gc_store.specs.Kinds.{IsScopedOfKind}

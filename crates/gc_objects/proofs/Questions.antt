@@ -8,14 +8,14 @@ use Rattle.gc_model.specs.Values.{Reference, null, small, at, Value, Object, str
 use Rattle.gc_model.specs.Table.{Table}
 use Rattle.gc_model.specs.Stores.{StoreView}
 use Rattle.gc_model.specs.Holds.{HoldsTable}
-use Rattle.gc_store.specs.declared.root.GcRootIndex.{GcRootIndex}
-use Rattle.gc_store.specs.declared.root.RootFault.{RootFault}
-use Rattle.gc_store.specs.declared.root.RootFault.TheVariants as fault
+use Rattle.gc_values.specs.declared.root.GcRootIndex.{GcRootIndex}
+use Rattle.gc_values.specs.declared.root.RootFault.{RootFault}
+use Rattle.gc_values.specs.declared.root.RootFault.TheVariants as fault
 use Rattle.gc_objects.specs.declared.faults.AccessFault.{AccessFault}
 use Rattle.gc_objects.specs.declared.faults.AccessFault.TheVariants as access_fault
 use Rattle.gc_objects.specs.Faults.{accessed}
-use Rattle.gc_store.specs.declared.root.RootedObject.{RootedObject}
-use Rattle.gc_store.specs.declared.rooted.Rooted.{Rooted}
+use Rattle.gc_values.specs.declared.root.RootedObject.{RootedObject}
+use Rattle.gc_rooted.specs.declared.rooted.Rooted.{Rooted}
 use Rattle.gc_store.specs.Roots.{is_of_store, NamesReference, IsReference, IsObject, FindsRoot}
 use Rattle.gc_store.specs.Kinds.{object_kind, IsOfKind, NamesKind}
 use Rattle.gc_objects.specs.declared.places.NamedArray.{NamedArray}

@@ -10,7 +10,7 @@ use Rattle.gc_model.specs.Stored.{stored_in}
 use Rattle.gc_model.specs.Table.{Table}
 use Rattle.gc_model.specs.Stores.{StoreView}
 use Rattle.gc_model.specs.Holds.{HoldsTable}
-use Rattle.gc_store.specs.declared.request.Place.TheVariants as request
+use Rattle.gc_values.specs.declared.request.Place.TheVariants as request
 use Rattle.gc_store.specs.Requests.{CanPlaceStruct, fields_of}
 use Rattle.gc_objects.specs.declared.checks.ValueTypes.TheVariants as value_types
 use Rattle.gc_objects.specs.declared.faults.ValueFault.{ValueFault}

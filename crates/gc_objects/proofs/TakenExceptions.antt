@@ -7,8 +7,8 @@ use Rattle.gc_model.specs.Table.{Table, push}
 use Rattle.gc_model.specs.Pending.{take_pending}
 use Rattle.gc_model.specs.Stores.{StoreView}
 use Rattle.gc_policy.specs.Accounts.{Account, HoldsAccount}
-use Rattle.gc_store.specs.declared.root.GcRootIndex.{GcRootIndex}
-use Rattle.gc_store.specs.declared.root.RootFault.{RootFault}
+use Rattle.gc_values.specs.declared.root.GcRootIndex.{GcRootIndex}
+use Rattle.gc_values.specs.declared.root.RootFault.{RootFault}
 use Rattle.gc_store.specs.Roots.{NamesScoped}
 use Rattle.gc_store.specs.Thrown.{AnswersPending, TakesPending}
 use Rattle.gc_store.specs.Kinds.{IsOfKind, IsScopedOfKind}

@@ -9,10 +9,10 @@ use Rattle.gc_types.specs.Subtyping.{supertypes_of, Meets}
 use Rattle.gc_model.specs.Values.{Reference}
 use Rattle.gc_model.specs.Table.{Table}
 use Rattle.gc_model.specs.Stores.{StoreView}
-use Rattle.gc_store.specs.declared.root.GcRootIndex.{GcRootIndex}
-use Rattle.gc_store.specs.declared.root.RootFault.{RootFault}
-use Rattle.gc_store.specs.declared.root.RootFault.TheVariants as fault
-use Rattle.gc_store.specs.declared.root.RootedObject.TheVariants as rooted_object
+use Rattle.gc_values.specs.declared.root.GcRootIndex.{GcRootIndex}
+use Rattle.gc_values.specs.declared.root.RootFault.{RootFault}
+use Rattle.gc_values.specs.declared.root.RootFault.TheVariants as fault
+use Rattle.gc_values.specs.declared.root.RootedObject.TheVariants as rooted_object
 use Rattle.gc_store.specs.Roots.{is_of_store, FindsRoot}
 use Rattle.gc_objects.specs.Answered.{Answers, HasTypeNamed, MatchesType, are_own_names, type_named}
 use Rattle.gc_objects.specs.Kinds.{is_type_of}

@@ -19,7 +19,7 @@ use Rattle.gc_model.specs.Stores.{StoreView}
 use Rattle.gc_model.specs.Holds.{HoldsTable, Stands, naming}
 use Rattle.gc_model.proofs.HeldObjects.{object_held}
 use Rattle.gc_model.proofs.ObjectStands.{value_below}
-use Rattle.gc_store.specs.declared.root.GcRootIndex.{GcRootIndex}
+use Rattle.gc_values.specs.declared.root.GcRootIndex.{GcRootIndex}
 use Rattle.gc_store.specs.Roots.{NamesReference}
 use Rattle.gc_store.proofs.HandleWords.{named_held}
 use Rattle.gc_objects.specs.declared.places.NamedArray.{NamedArray}

@@ -20,9 +20,9 @@ use Rattle.gc_model.specs.Table.{Table}
 use Rattle.gc_model.proofs.Fitting.{fits-form}
 use Rattle.gc_model.proofs.ReadingBack.{storage_reference}
 use Rattle.gc_model.proofs.PointParts.{is_reference}
-use Rattle.gc_store.specs.declared.root.GcRootIndex.{GcRootIndex}
-use Rattle.gc_store.specs.declared.root.RootFault.{RootFault}
-use Rattle.gc_store.specs.declared.root.RootedObject.TheVariants as rooted_object
+use Rattle.gc_values.specs.declared.root.GcRootIndex.{GcRootIndex}
+use Rattle.gc_values.specs.declared.root.RootFault.{RootFault}
+use Rattle.gc_values.specs.declared.root.RootedObject.TheVariants as rooted_object
 use Rattle.gc_store.specs.Roots.{is_of_store, NamesReference, FindsRoot}
 use Rattle.gc_objects.specs.declared.places.NamedArray.{NamedArray}
 use Rattle.gc_objects.specs.declared.places.NamedExn.{NamedExn}

@@ -12,9 +12,9 @@ use Rattle.gc_model.specs.Reads.{makes_root, after_read}
 use Rattle.gc_model.specs.Stores.{StoreView}
 use Rattle.gc_model.specs.Table.{Table, push}
 use Rattle.gc_policy.specs.Accounts.{Account, HoldsAccount}
-use Rattle.gc_store.specs.declared.root.GcRootIndex.{GcRootIndex}
-use Rattle.gc_store.specs.declared.root.RootFault.{RootFault}
-use Rattle.gc_store.specs.declared.root.RootFault.TheVariants as root_fault
+use Rattle.gc_values.specs.declared.root.GcRootIndex.{GcRootIndex}
+use Rattle.gc_values.specs.declared.root.RootFault.{RootFault}
+use Rattle.gc_values.specs.declared.root.RootFault.TheVariants as root_fault
 use Rattle.gc_store.specs.RootRoom.{roots_left}
 use Rattle.gc_store.specs.Roots.{HasValue, CanRead}
 use Rattle.gc_store.specs.Stores.{IsSameStore, scoped_places}

@@ -8,14 +8,15 @@ use Rattle.gc_types.specs.declared.value.ValType.{ValType}
 use Rattle.gc_model.specs.Fits.{fits_type}
 use Rattle.gc_model.specs.Table.{Table}
 use Rattle.gc_model.specs.Stores.{StoreView}
-use Rattle.gc_store.specs.declared.root.GcRootIndex.{GcRootIndex}
-use Rattle.gc_store.specs.declared.root.RawValue.{RawValue}
-use Rattle.gc_store.specs.declared.root.RawValue.TheVariants as raw
-use Rattle.gc_store.specs.declared.root.RootFault.{RootFault}
-use Rattle.gc_store.specs.declared.root.RootFault.TheVariants as fault
-use Rattle.gc_store.specs.declared.root.RootedObject.{RootedObject}
+use Rattle.gc_values.specs.declared.root.GcRootIndex.{GcRootIndex}
+use Rattle.gc_values.specs.declared.root.RawValue.{RawValue}
+use Rattle.gc_values.specs.declared.root.RawValue.TheVariants as raw
+use Rattle.gc_values.specs.declared.root.RootFault.{RootFault}
+use Rattle.gc_values.specs.declared.root.RootFault.TheVariants as fault
+use Rattle.gc_values.specs.declared.root.RootedObject.{RootedObject}
 use Rattle.gc_store.specs.Roots.{is_of_store, NamesReference, NamesNothing, IsReference}
-use Rattle.gc_store.specs.Values.{RawStands, raw_handle}
+use Rattle.gc_store.specs.Values.{RawStands}
+use Rattle.gc_values.specs.RawValues.{raw_handle}
 use Rattle.gc_objects.specs.declared.val.Val.{Val}
 use Rattle.gc_objects.specs.Answered.{Answers, ChecksHandle, RawFitsType}
 use Rattle.gc_objects.specs.Given.{raw_of, named_root, is_own_root, IsLiveOrGone}

@@ -1,9 +1,9 @@
 -- Which values take memory to be written.
 use Rattle.std.proofs.Common.{◌≡◌, true, [], ◌∷◌, Some, None, Result, Err, IsOk, ap, ◌∙◌, refl}
-use Rattle.gc_store.specs.declared.root.RawValue.{RawValue}
-use Rattle.gc_store.specs.declared.write.WriteFault.{WriteFault}
+use Rattle.gc_values.specs.declared.root.RawValue.{RawValue}
+use Rattle.gc_values.specs.declared.faults.WriteFault.{WriteFault}
 use Rattle.gc_model.specs.SideValues.{no_side_values}
-use Rattle.gc_store.specs.Values.{raw_side_values}
+use Rattle.gc_values.specs.RawValues.{raw_side_values}
 use Rattle.gc_objects.specs.declared.val.Val.{Val}
 use Rattle.gc_objects.specs.declared.val.Val.TheVariants as val
 use Rattle.gc_objects.specs.Given.{raw_of}

@@ -6,8 +6,8 @@ use Rattle.gc_model.specs.Values.{Reference, Value, Object, exception}
 use Rattle.gc_model.specs.Stored.{stored_in}
 use Rattle.gc_model.specs.Stores.{StoreView}
 use Rattle.gc_model.specs.Table.{Table}
-use Rattle.gc_store.specs.declared.root.RootedObject.{RootedObject}
-use Rattle.gc_store.specs.declared.root.RootedObject.TheVariants as rooted
+use Rattle.gc_values.specs.declared.root.RootedObject.{RootedObject}
+use Rattle.gc_values.specs.declared.root.RootedObject.TheVariants as rooted
 use Rattle.gc_store.specs.Requests.{exn_fields_of}
 use Rattle.gc_objects.specs.declared.faults.AllocFault.TheVariants as fault
 use Rattle.gc_objects.specs.declared.places.NamedExn.{NamedExn}

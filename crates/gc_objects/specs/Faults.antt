@@ -1,6 +1,6 @@
 -- One call's faults as those of another.
-use Rattle.gc_store.specs.declared.root.RootFault.{RootFault}
-use Rattle.gc_store.specs.declared.root.RootFault.TheVariants as root_fault
+use Rattle.gc_values.specs.declared.root.RootFault.{RootFault}
+use Rattle.gc_values.specs.declared.root.RootFault.TheVariants as root_fault
 use Rattle.gc_objects.specs.declared.faults.AccessFault.{AccessFault}
 use Rattle.gc_objects.specs.declared.faults.AccessFault.TheVariants as access
 use Rattle.gc_objects.specs.declared.faults.AllocFault.{AllocFault}

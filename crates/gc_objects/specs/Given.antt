@@ -13,12 +13,13 @@ use Rattle.gc_model.specs.Values.{Value}
 use Rattle.gc_model.specs.Fits.{fits}
 use Rattle.gc_model.specs.Table.{Table}
 use Rattle.gc_model.specs.Stores.{StoreView}
-use Rattle.gc_store.specs.declared.root.GcRootIndex.{GcRootIndex}
-use Rattle.gc_store.specs.declared.root.RawValue.{RawValue}
-use Rattle.gc_store.specs.declared.root.RawValue.TheVariants as raw
-use Rattle.gc_store.specs.declared.rooted.Rooted.{Rooted}
+use Rattle.gc_values.specs.declared.root.GcRootIndex.{GcRootIndex}
+use Rattle.gc_values.specs.declared.root.RawValue.{RawValue}
+use Rattle.gc_values.specs.declared.root.RawValue.TheVariants as raw
+use Rattle.gc_rooted.specs.declared.rooted.Rooted.{Rooted}
 use Rattle.gc_store.specs.Roots.{is_of_store, NamesNothing}
-use Rattle.gc_store.specs.Values.{IsLive, RawStands, raw_handle, CanStore}
+use Rattle.gc_store.specs.Values.{IsLive, RawStands, CanStore}
+use Rattle.gc_values.specs.RawValues.{raw_handle}
 use Rattle.gc_store.specs.Kinds.{NamesKind, IsScopedOfKind}
 use Rattle.gc_objects.specs.declared.checks.ValueTypes.{ValueTypes}
 use Rattle.gc_objects.specs.declared.checks.ValueTypes.TheVariants as value_types

@@ -10,13 +10,13 @@ use Rattle.gc_model.specs.Stored.{stored, stored_in, byte_value}
 use Rattle.gc_model.specs.Table.{Table, make}
 use Rattle.gc_model.specs.Stores.{StoreView}
 use Rattle.gc_policy.specs.Policy.{PolicyState}
-use Rattle.gc_store.specs.declared.root.GcRootIndex.{GcRootIndex}
-use Rattle.gc_store.specs.declared.rooted.Rooted.{Rooted}
-use Rattle.gc_store.specs.declared.store.PlaceFault.{PlaceFault}
-use Rattle.gc_store.specs.declared.store.PlaceFault.TheVariants as place
+use Rattle.gc_values.specs.declared.root.GcRootIndex.{GcRootIndex}
+use Rattle.gc_rooted.specs.declared.rooted.Rooted.{Rooted}
+use Rattle.gc_values.specs.declared.faults.PlaceFault.{PlaceFault}
+use Rattle.gc_values.specs.declared.faults.PlaceFault.TheVariants as place
 use Rattle.gc_store.specs.Places.{Places, PlacesObject, RefusesPlace, HasIds, bytes_of}
-use Rattle.gc_store.specs.declared.request.Place.{Place}
-use Rattle.gc_store.specs.declared.request.Place.TheVariants as request
+use Rattle.gc_values.specs.declared.request.Place.{Place}
+use Rattle.gc_values.specs.declared.request.Place.TheVariants as request
 use Rattle.gc_store.specs.Requests.{fields_of, exn_fields_of, element_of, CanPlaceStruct, CanPlaceException, CanPlaceElements}
 use Rattle.gc_store.specs.Values.{AllStand}
 use Rattle.gc_store.specs.Roots.{NamesReference}

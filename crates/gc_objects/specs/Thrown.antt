@@ -6,10 +6,10 @@ use Rattle.gc_model.specs.Pending.{set_pending}
 use Rattle.gc_model.specs.Table.{Table}
 use Rattle.gc_model.specs.Stores.{StoreView}
 use Rattle.gc_policy.specs.Accounts.{Account, HoldsAccount}
-use Rattle.gc_store.specs.declared.root.GcRootIndex.{GcRootIndex}
-use Rattle.gc_store.specs.declared.root.RootFault.{RootFault}
-use Rattle.gc_store.specs.declared.root.RootFault.TheVariants as root_fault
-use Rattle.gc_store.specs.declared.rooted.Rooted.{Rooted}
+use Rattle.gc_values.specs.declared.root.GcRootIndex.{GcRootIndex}
+use Rattle.gc_values.specs.declared.root.RootFault.{RootFault}
+use Rattle.gc_values.specs.declared.root.RootFault.TheVariants as root_fault
+use Rattle.gc_rooted.specs.declared.rooted.Rooted.{Rooted}
 use Rattle.gc_store.specs.Roots.{is_of_store, NamesReference, NamesNothing}
 use Rattle.gc_store.specs.Thrown.{AnswersPending}
 use Rattle.gc_objects.specs.declared.throwing.ThrowFault.{ThrowFault}

@@ -10,8 +10,8 @@ use Rattle.gc_model.specs.Stored.{stored, value_type}
 use Rattle.gc_model.specs.Table.{Table, write}
 use Rattle.gc_model.specs.Stores.{StoreView}
 use Rattle.gc_policy.specs.Accounts.{Account, HoldsAccount}
-use Rattle.gc_store.specs.declared.root.GcRootIndex.{GcRootIndex}
-use Rattle.gc_store.specs.declared.write.WriteFault.TheVariants as write_fault
+use Rattle.gc_values.specs.declared.root.GcRootIndex.{GcRootIndex}
+use Rattle.gc_values.specs.declared.faults.WriteFault.TheVariants as write_fault
 use Rattle.gc_store.specs.Roots.{is_of_store, NamesReference, NamesNothing, HasValue}
 use Rattle.gc_store.specs.Values.{WritesValue}
 use Rattle.gc_objects.specs.declared.faults.AccessFault.{AccessFault}

@@ -16,7 +16,8 @@ use crate::places::{array_in, number_in, object_at, struct_in};
 use gc_heap::GcHeap;
 use gc_refs::I31;
 use gc_store::laws::stores_hold_tables;
-use gc_store::{RootFault, Rooted, RootedGcRef, Store};
+use gc_rooted::{Rooted, RootedGcRef};
+use gc_store::{RootFault, Store};
 
 impl AnyRef {
     /// A new scoped root for a 31-bit number: `RootsFull` where no further one may be made.

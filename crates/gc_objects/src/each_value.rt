@@ -20,7 +20,8 @@ use crate::places::{NamedArray, array_at, element_of, exn_at, struct_at};
 use crate::values::{Elems, Fields, Values};
 use gc_heap::GcHeap;
 use gc_store::laws::stores_hold_tables;
-use gc_store::{GcRootIndex, RootedGcRef, Store};
+use gc_rooted::RootedGcRef;
+use gc_store::{GcRootIndex, Store};
 use gc_types::VMSharedTypeIndex;
 
 /// How many values an object has, and how many of them are references, null or not.

@@ -27,7 +27,8 @@ use crate::places::{exn_at, has_param_count, param_at};
 use crate::val::Val;
 use gc_heap::GcHeap;
 use gc_store::laws::stores_hold_tables;
-use gc_store::{Place, ResourceLimiter, RootFault, Rooted, RootedGcRef, Store};
+use gc_rooted::{Rooted, RootedGcRef};
+use gc_store::{Place, ResourceLimiter, RootFault, Store};
 use gc_types::{ExnType, Tag};
 
 impl ExnRef {

@@ -20,10 +20,8 @@ use crate::faults::AllocFault;
 use crate::marks::{AnyRef, ExternRef};
 use gc_heap::GcHeap;
 use gc_store::laws::stores_hold_tables;
-use gc_store::{
-    GcRootIndex, HostDataFault, PlaceHostFault, ResourceLimiter, RootFault, Rooted, RootedGcRef,
-    Store,
-};
+use gc_rooted::{Rooted, RootedGcRef};
+use gc_store::{GcRootIndex, HostDataFault, PlaceHostFault, ResourceLimiter, RootFault, Store};
 
 /// What the store answered to a host value, as a typed handle.
 fn handed<H: GcHeap, D: Drop>(

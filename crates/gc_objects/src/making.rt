@@ -15,9 +15,8 @@ ghost use Rattle.gc_objects.specs.Makes.{asked, handle_answer, MakesAsked, CanMa
 use crate::faults::AllocFault;
 use crate::val::{Val, raw_of};
 use gc_heap::GcHeap;
-use gc_store::{
-    Contents, GcRef, GcRootIndex, Place, PlaceFault, RawValue, ResourceLimiter, Rooted, Store,
-};
+use gc_rooted::{GcRef, Rooted};
+use gc_store::{Contents, GcRootIndex, Place, PlaceFault, RawValue, ResourceLimiter, Store};
 use gc_types::VMSharedTypeIndex;
 use std::alloc::{AllocError, Global};
 

@@ -3,7 +3,8 @@
 ghost use Rattle.gc_types.specs.declared.kind.VMGcKind.{VMGcKind};
 ghost use Rattle.gc_owner.specs.declared.entry.GcClass.{GcClass};
 
-use gc_store::{GcClass, GcRef};
+use gc_rooted::GcRef;
+use gc_store::GcClass;
 use gc_types::VMGcKind;
 
 /// References that are 31-bit numbers, structs or arrays.

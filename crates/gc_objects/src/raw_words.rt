@@ -16,7 +16,8 @@ ghost use Rattle.gc_objects.specs.RawWords.{TakesWord};
 
 use crate::marks::ExternRef;
 use gc_heap::GcHeap;
-use gc_store::{RootFault, Rooted, RootedGcRef, Store};
+use gc_rooted::{Rooted, RootedGcRef};
+use gc_store::{RootFault, Store};
 
 impl ExternRef {
     /// The word of the handle's reference, for `from_raw` until the heap collects next. `WrongStore`, then `Unrooted`. It

@@ -7,7 +7,8 @@ use crate::marks::ExnRef;
 use crate::places::exn_at;
 use gc_heap::GcHeap;
 use gc_store::laws::stores_hold_tables;
-use gc_store::{RootFault, Rooted, RootedGcRef, Store};
+use gc_rooted::{Rooted, RootedGcRef};
+use gc_store::{RootFault, Store};
 use thiserror::Error;
 
 /// What a throw answers: never a value.
@@ -39,7 +40,7 @@ fn thrown<X>(answer: Result<(), RootFault>) -> Result<X, ThrowFault>
 /// Throwing and catching at a store.
 pub trait StoreExn {
     ghost use Rattle.std.specs.Prelude.{IsErr};
-    ghost use Rattle.gc_store.specs.declared.root.GcRootIndex.{GcRootIndex};
+    ghost use Rattle.gc_values.specs.declared.root.GcRootIndex.{GcRootIndex};
 
     /// What the root names, where it is live, may be thrown.
     ghost may_throw: { Self → GcRootIndex → Type 0 };

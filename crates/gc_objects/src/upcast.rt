@@ -3,16 +3,16 @@
 ghost use Rattle.gc_types.specs.declared.kind.VMGcKind.{VMGcKind};
 ghost use Rattle.gc_types.specs.declared.kind.Layouts.{Layouts};
 ghost use Rattle.gc_model.specs.Stores.{StoreView};
-ghost use Rattle.gc_store.specs.declared.root.GcRootIndex.{GcRootIndex};
+ghost use Rattle.gc_values.specs.declared.root.GcRootIndex.{GcRootIndex};
 ghost use Rattle.gc_store.specs.Kinds.{NamesKind};
 
 use crate::marks::{AnyRef, ArrayRef, EqRef, StructRef};
-use gc_store::{GcRef, OwnedRooted, Rooted, RootedGcRef};
+use gc_rooted::{GcRef, OwnedRooted, Rooted, RootedGcRef};
 
 /// Handles whose references are of class any and can be compared.
 pub trait Upcast {
     ghost use Rattle.std.specs.Prelude.{◌≡◌};
-    ghost use Rattle.gc_store.specs.declared.root.GcRootIndex.{GcRootIndex};
+    ghost use Rattle.gc_values.specs.declared.root.GcRootIndex.{GcRootIndex};
 
     /// The root that it names.
     ghost root: { Self → GcRootIndex };

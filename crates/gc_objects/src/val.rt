@@ -10,7 +10,8 @@ use crate::fits::raw_matches_ty;
 use crate::marks::{AnyRef, ExnRef, ExternRef};
 use gc_heap::GcHeap;
 use gc_refs::V128;
-use gc_store::{GcClass, GcRef, GcRootIndex, RawValue, RootFault, Rooted, RootedGcRef, Store};
+use gc_rooted::{GcRef, Rooted, RootedGcRef};
+use gc_store::{GcClass, GcRootIndex, RawValue, RootFault, Store};
 use gc_types::{Func, ValType};
 
 /// A value. Floating-point numbers are their bits; a reference is a handle of its class, or null.

@@ -9,7 +9,7 @@ use Rattle.gc_model.specs.Words.{Placing}
 use Rattle.gc_model.proofs.Words.{place_even}
 use Rattle.gc_policy.specs.Accounts.{Account}
 use Rattle.gc_store.specs.OwnedWords.{HoldsThere}
-use Rattle.gc_store.specs.declared.root.RootFault.{RootFault}
+use Rattle.gc_values.specs.declared.root.RootFault.{RootFault}
 use Rattle.gc_paths.specs.declared.entry.PathEntry.{PathEntry}
 use Rattle.gc_paths.specs.declared.fault.PathFault.{PathFault}
 use Rattle.gc_paths.specs.Answers.{OnlyPushed, Reports}

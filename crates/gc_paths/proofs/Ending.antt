@@ -17,7 +17,7 @@ use Rattle.gc_policy.proofs.HeldSums.{no_other}
 use Rattle.gc_policy.specs.Accounts.{Account}
 use Rattle.gc_store.specs.OwnedWords.{HoldsThere}
 use Rattle.gc_paths.specs.Walks.{root, ValueNames, Walk, from_root, from_object, IsWalked, start_references}
-use Rattle.gc_store.specs.declared.root.GcRootIndex.{GcRootIndex}
+use Rattle.gc_values.specs.declared.root.GcRootIndex.{GcRootIndex}
 use Rattle.gc_paths.specs.declared.search.Found.{Found}
 use Rattle.gc_paths.specs.Left.{FoundAll}
 use Rattle.gc_paths.specs.Reports.{Told, positions}

@@ -14,15 +14,16 @@ use Rattle.gc_model.specs.Words.{Placing}
 use Rattle.gc_model.specs.Stores.{StoreView}
 use Rattle.gc_model.specs.Holds.{Holds}
 use Rattle.gc_policy.specs.Accounts.{HoldsAccount}
-use Rattle.gc_store.specs.declared.root.GcRootIndex.{GcRootIndex}
-use Rattle.gc_store.specs.declared.root.RawValue.{RawValue}
-use Rattle.gc_store.specs.declared.root.RawValue.TheVariants as raw
-use Rattle.gc_store.specs.declared.root.RootFault.{RootFault}
-use Rattle.gc_store.specs.declared.root.RootFault.TheVariants as fault
+use Rattle.gc_values.specs.declared.root.GcRootIndex.{GcRootIndex}
+use Rattle.gc_values.specs.declared.root.RawValue.{RawValue}
+use Rattle.gc_values.specs.declared.root.RawValue.TheVariants as raw
+use Rattle.gc_values.specs.declared.root.RootFault.{RootFault}
+use Rattle.gc_values.specs.declared.root.RootFault.TheVariants as fault
 use Rattle.gc_store.specs.OwnedWords.{HoldsThere}
 use Rattle.gc_store.specs.Roots.{NamesReference, HasValue, CanRead, handle_of}
 use Rattle.gc_store.specs.Stores.{IsSameStore}
-use Rattle.gc_store.specs.Values.{ReadsValue, IsLive, raw_handle}
+use Rattle.gc_store.specs.Values.{ReadsValue, IsLive}
+use Rattle.gc_values.specs.RawValues.{raw_handle}
 use Rattle.gc_paths.specs.declared.entry.PathParent.{PathParent}
 use Rattle.gc_paths.specs.declared.entry.PathParent.TheVariants as parent
 use Rattle.gc_paths.specs.declared.fault.PathFault.{PathFault}

@@ -27,7 +27,7 @@ use Rattle.gc_store.specs.declared.root_words.RootName.TheVariants as name
 use Rattle.gc_store.specs.declared.root_words.RootWord.{RootWord}
 use Rattle.gc_store.specs.RootWords as words
 use Rattle.gc_store.specs.RootWords.{numbered, root_word, slot_roots}
-use Rattle.gc_store.specs.Words.{owned_id}
+use Rattle.gc_values.specs.Words.{owned_id}
 use Rattle.gc_paths.specs.Walks.{Root, root, global_root, pending_roots, slot_root, frame_roots, owned_root, scoped_root, scoped_roots, start_roots}
 use Rattle.gc_paths.specs.Answers.{present_count}
 use Rattle.gc_paths.specs.Progress.{word_count}

@@ -3,7 +3,7 @@ use Rattle.std.specs.Prelude.{◌≡◌, ℕ, List, Some, length, slice_get}
 use Rattle.gc_types.specs.declared.kind.Layouts.{Layouts}
 use Rattle.gc_model.specs.Values.{at}
 use Rattle.gc_model.specs.Stores.{StoreView}
-use Rattle.gc_store.specs.declared.root.GcRootIndex.{GcRootIndex}
+use Rattle.gc_values.specs.declared.root.GcRootIndex.{GcRootIndex}
 use Rattle.gc_store.specs.Roots.{NamesReference}
 use Rattle.gc_paths.specs.declared.search.Found.{Found}
 use Rattle.gc_paths.specs.Answers.{NeedsRoots, LacksRoots}

@@ -2,8 +2,8 @@
 use Rattle.std.specs.Prelude.{◌≡◌, ℕ, List, Some, length}
 use Rattle.gc_types.specs.declared.value.FieldType.{FieldType}
 use Rattle.gc_types.specs.Declarations.{Declaration, fields_at}
-use Rattle.gc_store.specs.declared.root.RootedObject.{RootedObject}
-use Rattle.gc_store.specs.declared.root.RootedObject.TheVariants as rooted_object
+use Rattle.gc_values.specs.declared.root.RootedObject.{RootedObject}
+use Rattle.gc_values.specs.declared.root.RootedObject.TheVariants as rooted_object
 
 -- as many as a struct or exception type has fields
 abbrev pub CountsFields : List Declaration → ℕ → ℕ → Type 0

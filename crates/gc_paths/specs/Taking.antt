@@ -2,7 +2,7 @@
 use Rattle.std.specs.Prelude.{◌≡◌, ℕ, Some, Result, Ok, Err}
 use Rattle.gc_model.specs.Values.{Reference, null, small, at}
 use Rattle.gc_model.specs.Words.{Placing}
-use Rattle.gc_store.specs.declared.root.GcRootIndex.{GcRootIndex}
+use Rattle.gc_values.specs.declared.root.GcRootIndex.{GcRootIndex}
 use Rattle.gc_paths.specs.declared.entry.PathEntry.{PathEntry}
 use Rattle.gc_paths.specs.declared.entry.PathParent.{PathParent}
 use Rattle.gc_paths.specs.declared.fault.PathFault.{PathFault}

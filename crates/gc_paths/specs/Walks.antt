@@ -8,7 +8,7 @@ use Rattle.gc_model.specs.Table.{Table, Slot, Owned, Scoped}
 use Rattle.gc_store.specs.declared.root_words.RootName.{RootName}
 use Rattle.gc_store.specs.declared.root_words.RootName.TheVariants as name
 use Rattle.gc_store.specs.RootWords.{numbered}
-use Rattle.gc_store.specs.Words.{owned_id}
+use Rattle.gc_values.specs.Words.{owned_id}
 
 -- a root of a table: which one it is, and what it names
 pub record Root : Type 0 where

@@ -15,13 +15,14 @@ use Rattle.gc_model.specs.Values.{Reference, null, small, at, Value, reference, 
 use Rattle.gc_model.specs.Table.{Table}
 use Rattle.gc_model.specs.Fits.{matches, is_extern, fits_type, reference_fits, object_fits_any, object_fits_extern, object_fits_exn, fits}
 use Rattle.gc_model.specs.Stores.{StoreView}
-use Rattle.gc_store.specs.declared.root.RawValue.{RawValue}
-use Rattle.gc_store.specs.declared.root.RawValue.TheVariants as raw
-use Rattle.gc_store.specs.declared.root.RootedObject.{RootedObject}
+use Rattle.gc_values.specs.declared.root.RawValue.{RawValue}
+use Rattle.gc_values.specs.declared.root.RawValue.TheVariants as raw
+use Rattle.gc_values.specs.declared.root.RootedObject.{RootedObject}
 use Rattle.gc_store.specs.Roots.{IsReference, IsObject}
-use Rattle.gc_store.specs.declared.root.GcRootIndex.{GcRootIndex}
-use Rattle.gc_store.specs.Values.{RawStands, raw_handle}
-use Rattle.gc_store.specs.OwnTypes.{own_type, own_fits}
+use Rattle.gc_values.specs.declared.root.GcRootIndex.{GcRootIndex}
+use Rattle.gc_store.specs.Values.{RawStands}
+use Rattle.gc_values.specs.RawValues.{raw_handle}
+use Rattle.gc_values.specs.OwnTypes.{own_type, own_fits}
 use Rattle.gc_store.proofs.OwnFits.{root_fits}
 use Rattle.gc_script.specs.Values.{is_opaque, number_fits, raw_slot, TellsHandle}
 

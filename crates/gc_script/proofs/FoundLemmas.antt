@@ -11,11 +11,12 @@ use Rattle.gc_model.specs.Holds.{HoldsTable}
 use Rattle.gc_store.proofs.HandleWords.{named_held}
 use Rattle.gc_commands.specs.declared.reply.Refusal.{Refusal}
 use Rattle.gc_commands.specs.declared.reply.Refusal.TheVariants as refusal
-use Rattle.gc_store.specs.declared.root.GcRootIndex.{GcRootIndex}
-use Rattle.gc_store.specs.declared.root.RawValue.{RawValue}
-use Rattle.gc_store.specs.declared.root.RawValue.TheVariants as raw
+use Rattle.gc_values.specs.declared.root.GcRootIndex.{GcRootIndex}
+use Rattle.gc_values.specs.declared.root.RawValue.{RawValue}
+use Rattle.gc_values.specs.declared.root.RawValue.TheVariants as raw
 use Rattle.gc_store.specs.Roots.{NamesReference}
-use Rattle.gc_store.specs.Values.{RawStands, raw_handle}
+use Rattle.gc_store.specs.Values.{RawStands}
+use Rattle.gc_values.specs.RawValues.{raw_handle}
 use Rattle.gc_script.specs.declared.objects.NamedObject.{NamedObject}
 use Rattle.gc_script.specs.declared.objects.Wanted.{Wanted}
 use Rattle.gc_script.specs.State.{State, Held, number, reference, Stands}

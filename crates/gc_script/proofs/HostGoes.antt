@@ -18,12 +18,12 @@ use Rattle.gc_commands.specs.declared.reply.Reply.TheVariants as reply
 use Rattle.gc_commands.specs.declared.reply.Refusal.{Refusal}
 use Rattle.gc_commands.specs.declared.reply.Refusal.TheVariants as refusal
 use Rattle.gc_store.specs.declared.hosts.PlaceHostFault.TheVariants as host_fault
-use Rattle.gc_store.specs.declared.root.GcRootIndex.{GcRootIndex}
-use Rattle.gc_store.specs.declared.root.RawValue.{RawValue}
-use Rattle.gc_store.specs.declared.store.PlaceFault.TheVariants as fault
+use Rattle.gc_values.specs.declared.root.GcRootIndex.{GcRootIndex}
+use Rattle.gc_values.specs.declared.root.RawValue.{RawValue}
+use Rattle.gc_values.specs.declared.faults.PlaceFault.TheVariants as fault
 use Rattle.gc_store.specs.HostPlaces.{PlacesHost}
 use Rattle.gc_store.specs.Places.{Places}
-use Rattle.gc_store.specs.Values.{raw_handle}
+use Rattle.gc_values.specs.RawValues.{raw_handle}
 use Rattle.gc_script.specs.declared.runner.RunError.{RunError}
 use Rattle.gc_script.specs.Slots.{RunnerView}
 use Rattle.gc_script.specs.State.{State, HoldsState}

@@ -12,7 +12,7 @@ use Rattle.gc_types.specs.declared.value.FieldType.{FieldType}
 use Rattle.gc_types.specs.Declarations.{Declaration, Shape, struct_of, array_of, exn_of, func_of, declaration_fields, declaration_struct_fields, shape_fields, shape_struct_fields, fields_at, struct_fields_at, elem_at}
 use Rattle.gc_model.specs.Allocation.{Limits}
 use Rattle.gc_model.specs.Stores.{StoreView}
-use Rattle.gc_store.specs.declared.root.RawValue.{RawValue}
+use Rattle.gc_values.specs.declared.root.RawValue.{RawValue}
 use Rattle.gc_store.specs.Requests.{fields_of}
 use Rattle.gc_commands.specs.declared.command.Command.{Command}
 use Rattle.gc_commands.specs.declared.command.Command.TheVariants.{New, NewArr, Fixed, NewBytes}

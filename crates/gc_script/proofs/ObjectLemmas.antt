@@ -21,9 +21,9 @@ use Rattle.gc_model.proofs.HeldObjects.{object_held}
 use Rattle.gc_store.proofs.HandleWords.{named_held}
 use Rattle.gc_model.proofs.ObjectShapes.{shape_at, shape_value_type, value_type_is}
 use Rattle.gc_model.proofs.ObjectStands.{StandsByShape, stands_by_shape}
-use Rattle.gc_store.specs.declared.root.GcRootIndex.{GcRootIndex}
-use Rattle.gc_store.specs.declared.root.RootedObject.{RootedObject}
-use Rattle.gc_store.specs.declared.root.RootedObject.TheVariants as rooted
+use Rattle.gc_values.specs.declared.root.GcRootIndex.{GcRootIndex}
+use Rattle.gc_values.specs.declared.root.RootedObject.{RootedObject}
+use Rattle.gc_values.specs.declared.root.RootedObject.TheVariants as rooted
 use Rattle.gc_store.specs.Roots.{NamesReference, IsObject, IsReference, FindsRoot}
 use Rattle.gc_script.specs.declared.objects.NamedObject.{NamedObject}
 use Rattle.gc_script.specs.declared.objects.ValueTypes.TheVariants as types_of

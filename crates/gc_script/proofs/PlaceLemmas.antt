@@ -12,9 +12,9 @@ use Rattle.gc_model.specs.Live.{roots_full}
 use Rattle.gc_view.specs.Sizes.{need_of}
 use Rattle.gc_model.specs.Sizes.{object_size}
 use Rattle.gc_model.specs.Stores.{StoreView}
-use Rattle.gc_store.specs.declared.root.GcRootIndex.{GcRootIndex}
-use Rattle.gc_store.specs.declared.root.RawValue.TheVariants as raw
-use Rattle.gc_store.specs.declared.store.PlaceFault.TheVariants as fault
+use Rattle.gc_values.specs.declared.root.GcRootIndex.{GcRootIndex}
+use Rattle.gc_values.specs.declared.root.RawValue.TheVariants as raw
+use Rattle.gc_values.specs.declared.faults.PlaceFault.TheVariants as fault
 use Rattle.gc_policy.specs.Accounts.{Account, HoldsAccount, with_held}
 use Rattle.gc_store.specs.Stores.{IsSameStore}
 use Rattle.gc_store.specs.Places.{Places, LacksPlace}

@@ -19,13 +19,13 @@ use Rattle.gc_model.specs.Stored.{stored, stored_in, byte_value}
 use Rattle.gc_model.specs.Table.{Table}
 use Rattle.gc_model.specs.Stores.{StoreView}
 use Rattle.gc_model.specs.Holds.{HoldsTable}
-use Rattle.gc_store.specs.declared.root.GcRootIndex.{GcRootIndex}
-use Rattle.gc_store.specs.declared.root.RawValue.{RawValue}
-use Rattle.gc_store.specs.declared.root.RawValue.TheVariants as raw
-use Rattle.gc_store.specs.declared.request.Place.{Place}
-use Rattle.gc_store.specs.declared.request.Place.TheVariants as place
-use Rattle.gc_store.specs.declared.request.Contents.{Contents}
-use Rattle.gc_store.specs.declared.request.Contents.TheVariants as contents
+use Rattle.gc_values.specs.declared.root.GcRootIndex.{GcRootIndex}
+use Rattle.gc_values.specs.declared.root.RawValue.{RawValue}
+use Rattle.gc_values.specs.declared.root.RawValue.TheVariants as raw
+use Rattle.gc_values.specs.declared.request.Place.{Place}
+use Rattle.gc_values.specs.declared.request.Place.TheVariants as place
+use Rattle.gc_values.specs.declared.request.Contents.{Contents}
+use Rattle.gc_values.specs.declared.request.Contents.TheVariants as contents
 use Rattle.gc_store.specs.Places.{HasIds, lacks_ids}
 use Rattle.gc_store.specs.Requests.{fields_of, exn_fields_of, element_of, CanPlaceFields, CanPlaceSame, CanPlaceIn, IsFilled, IsObjectOf}
 use Rattle.gc_store.specs.Roots.{NamesReference}

@@ -14,8 +14,8 @@ use Rattle.gc_model.specs.Reads.{after_read}
 use Rattle.gc_model.specs.Stores.{StoreView}
 use Rattle.gc_model.specs.Holds.{HoldsTable}
 use Rattle.gc_model.proofs.Lists.{slice_get-push_new}
-use Rattle.gc_store.specs.declared.root.RawValue.{RawValue}
-use Rattle.gc_store.specs.declared.root.RawValue.TheVariants as raw
+use Rattle.gc_values.specs.declared.root.RawValue.{RawValue}
+use Rattle.gc_values.specs.declared.root.RawValue.TheVariants as raw
 use Rattle.gc_commands.specs.declared.reply.Reply.{Reply}
 use Rattle.gc_commands.specs.declared.reply.Reply.TheVariants as reply
 use Rattle.gc_commands.specs.declared.reply.Refusal.{Refusal}

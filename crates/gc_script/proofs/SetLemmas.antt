@@ -7,9 +7,9 @@ use Rattle.gc_owner.specs.declared.entry.GcClass.{GcClass}
 use Rattle.gc_model.specs.Table.{Table, Push}
 use Rattle.gc_model.specs.Stores.{StoreView}
 use Rattle.gc_model.proofs.Lists.{slice_get-push_new}
-use Rattle.gc_store.specs.declared.root.GcRootIndex.{GcRootIndex}
-use Rattle.gc_store.specs.declared.root.RawValue.{RawValue}
-use Rattle.gc_store.specs.declared.root.RawValue.TheVariants as raw
+use Rattle.gc_values.specs.declared.root.GcRootIndex.{GcRootIndex}
+use Rattle.gc_values.specs.declared.root.RawValue.{RawValue}
+use Rattle.gc_values.specs.declared.root.RawValue.TheVariants as raw
 use Rattle.gc_store.specs.Roots.{Names, handle_of}
 use Rattle.gc_store.specs.Stores.{IsSameStore}
 use Rattle.gc_policy.specs.Accounts.{Account, HoldsAccount}

@@ -5,8 +5,8 @@ use Rattle.gc_model.specs.Values.{Reference, Value, reference}
 use Rattle.gc_model.specs.Table.{Table}
 use Rattle.gc_model.specs.Stores.{StoreView}
 use Rattle.gc_commands.specs.declared.reply.ReplyValue.{ReplyValue}
-use Rattle.gc_store.specs.declared.root.GcRootIndex.{GcRootIndex}
-use Rattle.gc_store.specs.declared.root.RootedObject.{RootedObject}
+use Rattle.gc_values.specs.declared.root.GcRootIndex.{GcRootIndex}
+use Rattle.gc_values.specs.declared.root.RootedObject.{RootedObject}
 use Rattle.gc_store.specs.Roots.{NamesReference, IsReference}
 use Rattle.gc_store.specs.Values.{RootStands}
 use Rattle.gc_script.specs.Shapes.{shown}

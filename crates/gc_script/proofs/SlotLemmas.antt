@@ -1,7 +1,7 @@
 -- Registers after one more was added, unset.
 use Rattle.std.proofs.Common.{◌≡◌, ℕ, ◌≤◌, List, [], ◌∷◌, ◌++◌, length, Option, None, refl, zero, suc}
 use Rattle.gc_script.specs.Slots.{register_at}
-use Rattle.gc_store.specs.declared.root.RawValue.{RawValue}
+use Rattle.gc_values.specs.declared.root.RawValue.{RawValue}
 
 -- an unset register at the end changes none
 pub register_at-push : (slots : List (Option RawValue)) (d : ℕ) → register_at (slots ++ None ∷ []) d ≡ register_at slots d

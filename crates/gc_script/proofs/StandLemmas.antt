@@ -6,13 +6,13 @@ use Rattle.gc_model.specs.Table.{Table, Push}
 use Rattle.gc_model.specs.Stores.{StoreView}
 use Rattle.gc_model.specs.Holds.{HoldsTable}
 use Rattle.gc_model.proofs.Lists.{slice_get-push_old}
-use Rattle.gc_store.specs.declared.root.GcRootIndex.{GcRootIndex}
-use Rattle.gc_store.specs.declared.root.RootSlot.TheVariants as slot
-use Rattle.gc_store.specs.declared.root.RawValue.{RawValue}
-use Rattle.gc_store.specs.declared.root.RawValue.TheVariants as raw
+use Rattle.gc_values.specs.declared.root.GcRootIndex.{GcRootIndex}
+use Rattle.gc_values.specs.declared.root.RootSlot.TheVariants as slot
+use Rattle.gc_values.specs.declared.root.RawValue.{RawValue}
+use Rattle.gc_values.specs.declared.root.RawValue.TheVariants as raw
 use Rattle.gc_store.specs.Roots.{Names}
 use Rattle.gc_store.specs.Stores.{IsSameStore}
-use Rattle.gc_store.specs.Words.{owned_id}
+use Rattle.gc_values.specs.Words.{owned_id}
 use Rattle.gc_policy.specs.Accounts.{Account, HoldsAccount}
 use Rattle.gc_script.specs.Slots.{register_at, RunnerRest, RunnerView, new_runner}
 use Rattle.gc_script.specs.State.{State, Held, number, reference, HeldOwned, owned, unrooted, Stands, StandsOwned, HoldsState, begin, with_heap}

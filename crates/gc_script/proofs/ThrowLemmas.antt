@@ -15,10 +15,10 @@ use Rattle.gc_model.specs.Holds.{IsException}
 use Rattle.gc_model.proofs.HoldsParts.{same_held-itself}
 use Rattle.gc_model.proofs.HoldsPending.{holds_pending_set}
 use Rattle.gc_policy.specs.Accounts.{HoldsAccount}
-use Rattle.gc_store.specs.declared.root.GcRootIndex.{GcRootIndex}
-use Rattle.gc_store.specs.declared.root.RawValue.TheVariants as raw
-use Rattle.gc_store.specs.declared.root.RootFault.{RootFault}
-use Rattle.gc_store.specs.declared.root.RootFault.TheVariants as fault
+use Rattle.gc_values.specs.declared.root.GcRootIndex.{GcRootIndex}
+use Rattle.gc_values.specs.declared.root.RawValue.TheVariants as raw
+use Rattle.gc_values.specs.declared.root.RootFault.{RootFault}
+use Rattle.gc_values.specs.declared.root.RootFault.TheVariants as fault
 use Rattle.gc_store.specs.Roots.{handle_of}
 use Rattle.gc_store.specs.Stores.{IsSameStore}
 use Rattle.gc_store.specs.Thrown.{NamesException, SetsPending, AnswersPending}

@@ -10,16 +10,17 @@ use Rattle.gc_model.specs.Table.{Table}
 use Rattle.gc_model.specs.Live.{rooted}
 use Rattle.gc_model.specs.Stores.{StoreView}
 use Rattle.gc_model.specs.Holds.{HoldsTable}
-use Rattle.gc_store.specs.declared.root.GcRootIndex.{GcRootIndex}
-use Rattle.gc_store.specs.declared.root.RawValue.{RawValue}
-use Rattle.gc_store.specs.declared.root.RawValue.TheVariants as raw
-use Rattle.gc_store.specs.declared.root.RootFault.{RootFault}
-use Rattle.gc_store.specs.declared.root.RootFault.TheVariants as fault
-use Rattle.gc_store.specs.declared.root.RootedObject.{RootedObject}
+use Rattle.gc_values.specs.declared.root.GcRootIndex.{GcRootIndex}
+use Rattle.gc_values.specs.declared.root.RawValue.{RawValue}
+use Rattle.gc_values.specs.declared.root.RawValue.TheVariants as raw
+use Rattle.gc_values.specs.declared.root.RootFault.{RootFault}
+use Rattle.gc_values.specs.declared.root.RootFault.TheVariants as fault
+use Rattle.gc_values.specs.declared.root.RootedObject.{RootedObject}
 use Rattle.gc_store.specs.Roots.{Names, NamesReference, NamesNothing, TellsReference, is_of_store, handle_of}
-use Rattle.gc_store.specs.Values.{RawStands, raw_handle}
-use Rattle.gc_store.specs.declared.root.RootSlot.TheVariants as root_slot
-use Rattle.gc_store.specs.Words.{owned_id}
+use Rattle.gc_store.specs.Values.{RawStands}
+use Rattle.gc_values.specs.RawValues.{raw_handle}
+use Rattle.gc_values.specs.declared.root.RootSlot.TheVariants as root_slot
+use Rattle.gc_values.specs.Words.{owned_id}
 use Rattle.gc_store.proofs.HandleWords.{names-store, named_alone}
 use Rattle.gc_script.specs.State.{Held, number, reference, Stands}
 use Rattle.gc_script.specs.Given.{gone, is, given_held, given_root}

@@ -11,10 +11,10 @@ use Rattle.gc_model.specs.Table.{Table}
 use Rattle.gc_model.specs.Stores.{StoreView}
 use Rattle.gc_model.specs.Holds.{HoldsTable}
 use Rattle.gc_commands.specs.declared.reply.Refusal.{Refusal}
-use Rattle.gc_store.specs.declared.root.GcRootIndex.{GcRootIndex}
-use Rattle.gc_store.specs.declared.root.RawValue.{RawValue}
-use Rattle.gc_store.specs.declared.root.RootedObject.{RootedObject}
-use Rattle.gc_store.specs.declared.root.RootedObject.TheVariants as rooted
+use Rattle.gc_values.specs.declared.root.GcRootIndex.{GcRootIndex}
+use Rattle.gc_values.specs.declared.root.RawValue.{RawValue}
+use Rattle.gc_values.specs.declared.root.RootedObject.{RootedObject}
+use Rattle.gc_values.specs.declared.root.RootedObject.TheVariants as rooted
 use Rattle.gc_store.specs.Roots.{NamesReference}
 use Rattle.gc_script.specs.declared.objects.NamedObject.{NamedObject}
 use Rattle.gc_script.specs.declared.objects.ValueTypes.{ValueTypes}

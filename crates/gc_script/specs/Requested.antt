@@ -10,10 +10,10 @@ use Rattle.gc_model.specs.Stored.{stored_in}
 use Rattle.gc_model.specs.Values.{Value, Object, struct, array, exception}
 use Rattle.gc_commands.specs.declared.command.Operand.{Operand}
 use Rattle.gc_commands.specs.declared.reply.Refusal.{Refusal}
-use Rattle.gc_store.specs.declared.request.Place.{Place}
-use Rattle.gc_store.specs.declared.request.Place.TheVariants as place
-use Rattle.gc_store.specs.declared.request.Contents.{Contents}
-use Rattle.gc_store.specs.declared.request.Contents.TheVariants as contents
+use Rattle.gc_values.specs.declared.request.Place.{Place}
+use Rattle.gc_values.specs.declared.request.Place.TheVariants as place
+use Rattle.gc_values.specs.declared.request.Contents.{Contents}
+use Rattle.gc_values.specs.declared.request.Contents.TheVariants as contents
 use Rattle.gc_script.specs.State.{State}
 use Rattle.gc_script.specs.Given.{given_values}
 use Rattle.gc_script.specs.Steps.{fields_tests, heap_tests}

@@ -1,6 +1,6 @@
 -- The registers and the scope marks of a runner.
 use Rattle.std.specs.Prelude.{ℕ, List, [], Option, Some, None, slice_get}
-use Rattle.gc_store.specs.declared.root.RawValue.{RawValue}
+use Rattle.gc_values.specs.declared.root.RawValue.{RawValue}
 
 -- what a runner has beside its registers: its owned registers, and the numbers of roots with which its open scopes were
 -- entered, the oldest first

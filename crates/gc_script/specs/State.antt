@@ -8,8 +8,8 @@ use Rattle.gc_model.specs.Table.{Table}
 use Rattle.gc_model.specs.Stores.{StoreView}
 use Rattle.gc_policy.specs.Accounts.{Account, no_account, HoldsAccount}
 use Rattle.gc_store.specs.Roots.{Names, owned_handle}
-use Rattle.gc_store.specs.declared.root.RawValue.{RawValue}
-use Rattle.gc_store.specs.declared.root.RawValue.TheVariants as raw
+use Rattle.gc_values.specs.declared.root.RawValue.{RawValue}
+use Rattle.gc_values.specs.declared.root.RawValue.TheVariants as raw
 use Rattle.gc_script.specs.Slots.{register_at, RunnerView}
 
 -- what a register of the table holds: a number, or a class with null or the serial of a root

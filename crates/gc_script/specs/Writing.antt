@@ -5,7 +5,7 @@ use Rattle.gc_model.specs.Stores.{StoreView}
 use Rattle.gc_commands.specs.declared.command.Operand.{Operand}
 use Rattle.gc_commands.specs.declared.reply.Refusal.{Refusal}
 use Rattle.gc_commands.specs.declared.reply.Refusal.TheVariants as refusal
-use Rattle.gc_store.specs.declared.root.RawValue.{RawValue}
+use Rattle.gc_values.specs.declared.root.RawValue.{RawValue}
 use Rattle.gc_store.specs.Values.{RawStands}
 use Rattle.gc_script.specs.declared.objects.Wanted.{Wanted}
 use Rattle.gc_script.specs.declared.writes.Written.{Written}

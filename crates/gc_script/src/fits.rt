@@ -5,8 +5,9 @@ ghost use Rattle.gc_model.specs.Fits.{fits_type, fits};
 ghost use Rattle.gc_model.specs.Holds.{HoldsTable};
 ghost use Rattle.gc_model.specs.Table.{Table};
 ghost use Rattle.gc_model.specs.Values.{Value};
-ghost use Rattle.gc_store.specs.Values.{RawStands, raw_handle};
-ghost use Rattle.gc_store.specs.declared.root.GcRootIndex.{GcRootIndex};
+ghost use Rattle.gc_store.specs.Values.{RawStands};
+ghost use Rattle.gc_values.specs.RawValues.{raw_handle};
+ghost use Rattle.gc_values.specs.declared.root.GcRootIndex.{GcRootIndex};
 ghost use Rattle.gc_script.specs.Values.{TellsHandle, is_opaque, number_fits};
 
 use crate::values::slot_of;

@@ -16,7 +16,7 @@ pub(crate) struct Registers {
 
 impl Model for Registers {
     ghost use Rattle.std.specs.Prelude.{List, Option};
-    ghost use Rattle.gc_store.specs.declared.root.RawValue.{RawValue};
+    ghost use Rattle.gc_values.specs.declared.root.RawValue.{RawValue};
 
     ghost Value = { List (Option RawValue) };
 

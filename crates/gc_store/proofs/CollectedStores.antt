@@ -13,7 +13,7 @@ use Rattle.gc_policy.proofs.RootsShown.{SlotsInFrames}
 use Rattle.gc_policy.proofs.AccountLemmas.{collected_account, some_account}
 use Rattle.gc_store.specs.Expansion.{CollectsStore}
 use Rattle.gc_store.specs.Stores.{IsSound}
-use Rattle.gc_store.proofs.Keeping.{keeps-collected}
+use Rattle.gc_values.proofs.Keeping.{keeps-collected}
 use Rattle.gc_store.proofs.Expanding.{sound_again}
 
 -- what no limiter is asked for

@@ -25,13 +25,13 @@ use Rattle.gc_model.specs.Holds.{Placing, Holds, Stands}
 use Rattle.gc_model.proofs.Elements.{byte_elements}
 use Rattle.gc_model.proofs.ObjectShapes.{shape_at, array_shape}
 use Rattle.gc_model.proofs.ReadingBack.{number_lying}
-use Rattle.gc_store.specs.declared.root.GcRootIndex.{GcRootIndex}
-use Rattle.gc_store.specs.declared.root.RootFault.{RootFault}
-use Rattle.gc_store.specs.declared.slot.Slot.{Slot}
+use Rattle.gc_values.specs.declared.root.GcRootIndex.{GcRootIndex}
+use Rattle.gc_values.specs.declared.root.RootFault.{RootFault}
+use Rattle.gc_values.specs.declared.slot.Slot.{Slot}
 use Rattle.gc_store.specs.Roots.{word_of}
 use Rattle.gc_store.specs.Bytes.{NamesBytes}
-use Rattle.gc_store.specs.HeldSlots.{FindsHeldSlot, IsHeldOf, IsHeldWithSlot}
-use Rattle.gc_store.proofs.SlotPlaces.{bytes_reach, first_above, held_size_is, held_small}
+use Rattle.gc_values.specs.HeldSlots.{FindsHeldSlot, IsHeldOf, IsHeldWithSlot}
+use Rattle.gc_values.proofs.SlotPlaces.{bytes_reach, first_above, held_size_is, held_small}
 use Rattle.gc_store.proofs.HandleWords.{named_word, never_gone}
 
 -- lists of as many values, each of which is the other's

@@ -13,11 +13,11 @@ use Rattle.gc_owner.specs.Declares.{Declares}
 use Rattle.gc_owner.specs.Owners.{OwnerView}
 use Rattle.gc_policy.specs.Accounts.{Account, HoldsAccount}
 use Rattle.gc_policy.proofs.AccountLemmas.{account_kept}
-use Rattle.gc_store.specs.declared.engine.StoreId.{StoreId}
-use Rattle.gc_store.specs.declared.config.HeapConfig.{HeapConfig}
+use Rattle.gc_values.specs.declared.engine.StoreId.{StoreId}
+use Rattle.gc_values.specs.declared.config.HeapConfig.{HeapConfig}
 use Rattle.gc_store.specs.Stores.{StoreTables, store_view, IsSound}
 use Rattle.gc_store.specs.Stores as stores
-use Rattle.gc_store.proofs.Keeping.{counts_of}
+use Rattle.gc_values.proofs.Keeping.{counts_of}
 
 module _ {D : Type 0} (layouts : Layouts) (id : StoreId) (config : HeapConfig) (tables : StoreTables) (tries : ℕ) (d : Declaration) (old new : OwnerView D) where
   abbrev before : StoreView D

@@ -22,7 +22,7 @@ use Rattle.gc_store.specs.declared.grow.GrowFault.TheVariants as fault
 use Rattle.gc_store.specs.Expansion.{GrowsStore, ExpandsStore}
 use Rattle.gc_store.specs.Places.{MayGetPages}
 use Rattle.gc_store.specs.Stores.{IsSound}
-use Rattle.gc_store.proofs.Keeping.{Keeps, keeps-trans, keeps-begins, keeps-readies, keeps-grows}
+use Rattle.gc_values.proofs.Keeping.{Keeps, keeps-trans, keeps-begins, keeps-readies, keeps-grows}
 
 -- a store is sound again where it holds a table
 pub sound_again : {D : Type 0} (layouts : Layouts) (s : StoreView D) (v w : OwnerView D) (t : Table D) (a : Account) (counts : List ℕ) → IsSound D layouts counts v (shown s v) → Keeps v w → HoldsAccount layouts (shown s w) t a → IsSound D layouts counts w (shown s w)

@@ -26,12 +26,13 @@ use Rattle.gc_policy.specs.Accounts.{Account, IsAccount, HoldsAccount}
 use Rattle.gc_policy.specs.Shown.{frames_of}
 use Rattle.gc_policy.proofs.AccountLemmas.{account_kept}
 use Rattle.gc_policy.proofs.Frames.{frames-pushed, frames-popped, frames-set, frames-count, has_slot, slot_read}
-use Rattle.gc_store.specs.declared.config.HeapConfig.{HeapConfig}
-use Rattle.gc_store.specs.declared.engine.StoreId.{StoreId}
-use Rattle.gc_store.specs.declared.root.GcRootIndex.{GcRootIndex}
+use Rattle.gc_values.specs.declared.config.HeapConfig.{HeapConfig}
+use Rattle.gc_values.specs.declared.engine.StoreId.{StoreId}
+use Rattle.gc_values.specs.declared.root.GcRootIndex.{GcRootIndex}
 use Rattle.gc_store.specs.Roots.{IsRootWord}
 use Rattle.gc_store.specs.Slots.{FindsWord}
-use Rattle.gc_store.specs.Stores.{StoreTables, store_view, slot_counts, IsSound}
+use Rattle.gc_store.specs.Stores.{StoreTables, store_view, IsSound}
+use Rattle.gc_values.specs.SlotCounts.{slot_counts}
 use Rattle.gc_store.proofs.SlotLemmas.{entry_of}
 
 -- How many slots frames have

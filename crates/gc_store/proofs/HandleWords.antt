@@ -15,15 +15,15 @@ use Rattle.gc_model.specs.Holds.{Placing, IsWord, Holds}
 use Rattle.gc_model.proofs.Live.{live_word, dead_word, entry_stands}
 use Rattle.gc_model.proofs.OwnedRoots.{owned_found, owned_one}
 use Rattle.gc_model.proofs.Words.{word_same}
-use Rattle.gc_store.specs.declared.root.GcRootIndex.{GcRootIndex}
-use Rattle.gc_store.specs.declared.root.RootSlot.{RootSlot}
-use Rattle.gc_store.specs.declared.root.RootSlot.TheVariants as slot
-use Rattle.gc_store.specs.declared.root.RootFault.{RootFault}
-use Rattle.gc_store.specs.declared.root.RootFault.TheVariants as fault
+use Rattle.gc_values.specs.declared.root.GcRootIndex.{GcRootIndex}
+use Rattle.gc_values.specs.declared.root.RootSlot.{RootSlot}
+use Rattle.gc_values.specs.declared.root.RootSlot.TheVariants as slot
+use Rattle.gc_values.specs.declared.root.RootFault.{RootFault}
+use Rattle.gc_values.specs.declared.root.RootFault.TheVariants as fault
 use Rattle.gc_store.specs.Roots.{Names, word_of, is_of_store, owned_handle, NamesReference, NamesScoped, NamesOwned, NamesNothing, IsRootWord}
 use Rattle.gc_store.specs.Slots.{FindsWord}
-use Rattle.gc_store.specs.Words.{word_at, entry_word, owned_word, owned_at, owned_id}
-use Rattle.gc_store.proofs.OwnedWords.{owned_here, owned_there}
+use Rattle.gc_values.specs.Words.{word_at, entry_word, owned_word, owned_at, owned_id}
+use Rattle.gc_values.proofs.OwnedWords.{owned_here, owned_there, owned_word-ok, owned_word-err, tested-ok}
 
 -- what a handle with a word names
 pub record NamesWord {D : Type 0} (s : StoreView D) (t : Table D) (place : Placing) (handle : GcRootIndex) (word : ℕ) : Type 0 where
@@ -42,30 +42,6 @@ entry_word-err : (o : Option RootEntry) (generation : ℕ) (f : RootFault) → e
 entry_word-err None generation f e = (grind (arith, e), λ entry h. absurd (cc))
 entry_word-err (Some entry) generation f e =
     (grind (arith, common_steps, e), λ other h same. let is : entry ≡ other = grind (arith, h) in let g : entry.generation ≡ generation = ap (λ (x : RootEntry). x.generation) is ∙ same in absurd (grind (arith, common_steps, e, g)))
-
--- the word of an owned root that has handles
-pub owned_word-ok : (o : Option OwnedEntry) (word : ℕ) → owned_word o ≡ Ok word → (entry : OwnedEntry) × ((o ≡ Some entry) × ((0 < entry.handles) × (entry.word ≡ word)))
-owned_word-ok None word e = absurd (cc)
-owned_word-ok (Some entry) word e = elim (cases_eq entry.handles 0) [
-  | inl none ↦ absurd (let both : Err fault.Unrooted ≡ Ok word = sym (ap (λ b. cond b (Err fault.Unrooted) (Ok entry.word)) (eq-eqb entry.handles 0 none)) ∙ e in cc)
-  | inr some ↦
-      let both : Ok entry.word ≡ Ok word = sym (ap (λ b. cond b (Err fault.Unrooted) (Ok entry.word)) (ne_eqb entry.handles 0 some)) ∙ e in
-      (entry, (refl, (omega (arith, some), grind (arith, both))))
-]
-
-pub owned_word-err : (o : Option OwnedEntry) (f : RootFault) → owned_word o ≡ Err f → (f ≡ fault.Unrooted) × ((entry : OwnedEntry) → o ≡ Some entry → entry.handles ≡ 0)
-owned_word-err None f e = (grind (arith, e), λ entry h. absurd (cc))
-owned_word-err (Some entry) f e = elim (cases_eq entry.handles 0) [
-  | inl none ↦
-      let both : Err fault.Unrooted ≡ Err f = sym (ap (λ b. cond b (Err fault.Unrooted) (Ok entry.word)) (eq-eqb entry.handles 0 none)) ∙ e in
-      (grind (arith, both), λ other h. let is : entry ≡ other = grind (arith, h) in ap (λ (x : OwnedEntry). x.handles) (sym is) ∙ none)
-  | inr some ↦ absurd (let both : Ok entry.word ≡ Err f = sym (ap (λ b. cond b (Err fault.Unrooted) (Ok entry.word)) (ne_eqb entry.handles 0 some)) ∙ e in cc)
-]
-
--- a test that has to be true for a word
-pub tested-ok : (b : Bool) (x : Result ℕ RootFault) (f : RootFault) (word : ℕ) → cond b x (Err f) ≡ Ok word → (b ≡ true) × (x ≡ Ok word)
-tested-ok true x f word e = (refl, e)
-tested-ok false x f word e = absurd (cc)
 
 -- Ids of a store
 

@@ -11,8 +11,8 @@ use Rattle.gc_model.proofs.HoldsHost.{holds_set_host}
 use Rattle.gc_owner.specs.Owners.{OwnerView}
 use Rattle.gc_policy.specs.Accounts.{Account, HoldsAccount, IsAccount}
 use Rattle.gc_policy.proofs.AccountLemmas.{account_kept}
-use Rattle.gc_store.specs.declared.engine.StoreId.{StoreId}
-use Rattle.gc_store.specs.declared.config.HeapConfig.{HeapConfig}
+use Rattle.gc_values.specs.declared.engine.StoreId.{StoreId}
+use Rattle.gc_values.specs.declared.config.HeapConfig.{HeapConfig}
 use Rattle.gc_store.specs.HostSteps.{HasHostId}
 use Rattle.gc_store.specs.Stores.{StoreTables, store_view, IsSound}
 

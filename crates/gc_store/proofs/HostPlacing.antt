@@ -42,13 +42,13 @@ use Rattle.gc_policy.proofs.HeldMore.{held_more}
 use Rattle.gc_policy.proofs.HostRetry.{taken_lacks, taken_pauses}
 use Rattle.gc_store.specs.declared.hosts.PlaceHostFault.{PlaceHostFault}
 use Rattle.gc_store.specs.declared.hosts.PlaceHostFault.TheVariants as fault
-use Rattle.gc_store.specs.declared.root.GcRootIndex.{GcRootIndex}
-use Rattle.gc_store.specs.declared.root.RootSlot.TheVariants as slot
+use Rattle.gc_values.specs.declared.root.GcRootIndex.{GcRootIndex}
+use Rattle.gc_values.specs.declared.root.RootSlot.TheVariants as slot
 use Rattle.gc_store.specs.HostPlaces.{PlacesHost}
 use Rattle.gc_store.specs.HostSteps.{AllocatesHost, MakesHost}
 use Rattle.gc_store.specs.Places.{HasIds}
-use Rattle.gc_store.specs.Making.{BeginsMaking}
-use Rattle.gc_store.proofs.Keeping.{counts_of, Keeps, keeps-trans, keeps-making, keeps-retried, keeps-paused, same_count}
+use Rattle.gc_values.specs.Making.{BeginsMaking}
+use Rattle.gc_values.proofs.Keeping.{counts_of, Keeps, keeps-trans, keeps-making, keeps-retried, keeps-paused, same_count}
 use Rattle.gc_store.proofs.Preparing.{IsReadyStore, lacks_room, lacks_pages, wants_heap, wants_room, room_found}
 
 -- a refusal of the owner, which handed the value back

@@ -7,19 +7,19 @@ use Rattle.std.proofs.lemmas.Option.{none-some, same_Some, slice_get-map}
 use Rattle.gc_owner.specs.declared.entry.RootEntry.{RootEntry}
 use Rattle.gc_model.specs.Values.{Value}
 use Rattle.gc_model.specs.Forms.{Names, InternedIds}
-use Rattle.gc_store.specs.declared.root.RawValue.{RawValue}
-use Rattle.gc_store.specs.declared.root.RawValue.TheVariants as raw
-use Rattle.gc_store.specs.declared.root.RootSlot.{RootSlot}
-use Rattle.gc_store.specs.declared.root.RootSlot.TheVariants as slot
-use Rattle.gc_store.specs.declared.root.RootFault.TheVariants as fault
-use Rattle.gc_store.specs.declared.stored.Stored.{Stored}
-use Rattle.gc_store.specs.declared.stored.Stored.TheVariants as stores
-use Rattle.gc_store.specs.Kept.{IsKept, KeptAs, KeptStands}
-use Rattle.gc_store.specs.Words.{HandleRoots, root_word_at, entry_word, owned_id, owned_word, owned_at}
-use Rattle.gc_store.specs.Values.{raw_side_values}
-use Rattle.gc_store.proofs.GivenValues.{HaveAllIds}
-use Rattle.gc_store.proofs.Keeping.{generations_of}
-use Rattle.gc_store.proofs.OwnedKept.{KeepsOwned}
+use Rattle.gc_values.specs.declared.root.RawValue.{RawValue}
+use Rattle.gc_values.specs.declared.root.RawValue.TheVariants as raw
+use Rattle.gc_values.specs.declared.root.RootSlot.{RootSlot}
+use Rattle.gc_values.specs.declared.root.RootSlot.TheVariants as slot
+use Rattle.gc_values.specs.declared.root.RootFault.TheVariants as fault
+use Rattle.gc_values.specs.declared.stored.Stored.{Stored}
+use Rattle.gc_values.specs.declared.stored.Stored.TheVariants as stores
+use Rattle.gc_values.specs.Kept.{IsKept, KeptAs, KeptStands}
+use Rattle.gc_values.specs.Words.{HandleRoots, root_word_at, entry_word, owned_id, owned_word, owned_at}
+use Rattle.gc_values.specs.RawValues.{raw_side_values}
+use Rattle.gc_values.proofs.GivenValues.{HaveAllIds}
+use Rattle.gc_values.proofs.Keeping.{generations_of}
+use Rattle.gc_values.proofs.OwnedKept.{KeepsOwned}
 
 -- Roots that moved, and one more
 

@@ -12,11 +12,11 @@ use Rattle.gc_owner.specs.RootColumns.{left_scope}
 use Rattle.gc_owner.specs.Owners.{OwnerView, ChangesRoots}
 use Rattle.gc_policy.specs.Accounts.{Account, HoldsAccount}
 use Rattle.gc_policy.proofs.AccountLemmas.{account_kept}
-use Rattle.gc_store.specs.declared.config.HeapConfig.{HeapConfig}
-use Rattle.gc_store.specs.declared.engine.StoreId.{StoreId}
+use Rattle.gc_values.specs.declared.config.HeapConfig.{HeapConfig}
+use Rattle.gc_values.specs.declared.engine.StoreId.{StoreId}
 use Rattle.gc_store.specs.OwnedWords.{HoldsThere}
 use Rattle.gc_store.specs.Stores.{StoreTables, store_view, IsSound}
-use Rattle.gc_store.proofs.Keeping.{counts_of}
+use Rattle.gc_values.proofs.Keeping.{counts_of}
 
 -- scope ends are counted alike by the owner and by the table
 counted_alike : (mark count generation : ℕ) → cond (nat_lt mark count) (min (generation + 1) (2 ^ 64 - 1)) generation ≡ cond (nat_le count mark) generation (min (generation + 1) (2 ^ 64 - 1))

@@ -21,14 +21,14 @@ use Rattle.gc_model.specs.Forms.{Form, Names as Naming, naming, number_at, stora
 use Rattle.gc_model.specs.Holds.{Placing, Holds, Stands}
 use Rattle.gc_model.proofs.ObjectShapes.{shape_at}
 use Rattle.gc_model.proofs.ObjectStands.{StandsByShape, value_not_host, LyingValue, shape_value, slot_stands}
-use Rattle.gc_store.specs.declared.root.GcRootIndex.{GcRootIndex}
-use Rattle.gc_store.specs.declared.root.RootFault.{RootFault}
+use Rattle.gc_values.specs.declared.root.GcRootIndex.{GcRootIndex}
+use Rattle.gc_values.specs.declared.root.RootFault.{RootFault}
 use Rattle.gc_store.specs.Roots.{word_of, HasValue}
-use Rattle.gc_store.specs.declared.slot.Slot.{Slot}
-use Rattle.gc_store.specs.declared.stored.Found.{Found}
-use Rattle.gc_store.specs.Kept.{FitsForm, FoundStands, IsFound}
-use Rattle.gc_store.specs.HeldSlots.{FindsAt, FindsHeldSlot, FitsAt, HasShape, IsHeldOf, IsHeldWithSlot, storage_slot}
-use Rattle.gc_store.proofs.SlotPlaces.{bytes_reach, slot_lies, held_size_is, held_small, readable}
+use Rattle.gc_values.specs.declared.slot.Slot.{Slot}
+use Rattle.gc_values.specs.declared.stored.Found.{Found}
+use Rattle.gc_values.specs.Kept.{FitsForm, FoundStands, IsFound}
+use Rattle.gc_values.specs.HeldSlots.{FindsAt, FindsHeldSlot, FitsAt, HasShape, IsHeldOf, IsHeldWithSlot, storage_slot}
+use Rattle.gc_values.proofs.SlotPlaces.{bytes_reach, slot_lies, held_size_is, held_small, readable}
 use Rattle.gc_store.proofs.HandleWords.{named_word, never_gone}
 
 -- An object of a heap has the shape of the one that it stands for.

@@ -25,12 +25,12 @@ use Rattle.gc_heap.specs.Heap.{new_struct, new_array, array_size}
 use Rattle.gc_owner.specs.Makes.{Describes}
 use Rattle.gc_owner.specs.Owners.{OwnerView}
 use Rattle.gc_model.proofs.ObjectShapes.{shape_at, struct_shape, array_shape}
-use Rattle.gc_store.specs.declared.request.Place.{Place}
-use Rattle.gc_store.specs.declared.request.Place.TheVariants as place
-use Rattle.gc_store.specs.Filling.{AreBlank, asked_type, IsOfAskedKind}
-use Rattle.gc_store.specs.HeldSlots.{HasShape}
-use Rattle.gc_store.specs.Making.{IsSizeOf, described_by}
-use Rattle.gc_store.proofs.ShapeSlots.{laid_out}
+use Rattle.gc_values.specs.declared.request.Place.{Place}
+use Rattle.gc_values.specs.declared.request.Place.TheVariants as place
+use Rattle.gc_values.specs.Filling.{AreBlank, asked_type, IsOfAskedKind}
+use Rattle.gc_values.specs.HeldSlots.{HasShape}
+use Rattle.gc_values.specs.Making.{IsSizeOf, described_by}
+use Rattle.gc_values.proofs.ShapeSlots.{laid_out}
 
 -- What is made for a request, by the types.
 -- an exception that is requested is one

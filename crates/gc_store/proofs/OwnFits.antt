@@ -12,9 +12,9 @@ use Rattle.gc_owner.specs.declared.entry.GcClass.TheVariants.{Any, Extern, Exn}
 use Rattle.gc_model.specs.Values.{Reference, null, small, at, Value, reference, Object, struct, array, host, exception}
 use Rattle.gc_model.specs.Table.{Table}
 use Rattle.gc_model.specs.Fits.{matches, is_extern, fits_type, reference_fits, object_fits_any, object_fits_extern, object_fits_exn}
-use Rattle.gc_store.specs.declared.root.RootedObject.{RootedObject}
+use Rattle.gc_values.specs.declared.root.RootedObject.{RootedObject}
 use Rattle.gc_store.specs.Roots.{IsReference, IsObject}
-use Rattle.gc_store.specs.OwnTypes.{own_type, own_fits}
+use Rattle.gc_values.specs.OwnTypes.{own_type, own_fits}
 
 -- extern matches extern alone
 extern_matches : (supers : List (Option ℕ)) (ty : HeapType) → is_extern ty ≡ matches supers heap.Extern ty

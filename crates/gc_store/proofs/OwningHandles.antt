@@ -11,20 +11,20 @@ use Rattle.gc_model.specs.Holds.{Placing, Holds}
 use Rattle.gc_model.proofs.HoldsOwned.{holds_handle_added, holds_handle_dropped}
 use Rattle.gc_policy.specs.Accounts.{Account, HoldsAccount}
 use Rattle.gc_policy.proofs.AccountLemmas.{account_kept}
-use Rattle.gc_store.specs.declared.config.HeapConfig.{HeapConfig}
-use Rattle.gc_store.specs.declared.engine.StoreId.{StoreId}
-use Rattle.gc_store.specs.declared.root.GcRootIndex.{GcRootIndex}
-use Rattle.gc_store.specs.declared.root.RootSlot.TheVariants as slot
+use Rattle.gc_values.specs.declared.config.HeapConfig.{HeapConfig}
+use Rattle.gc_values.specs.declared.engine.StoreId.{StoreId}
+use Rattle.gc_values.specs.declared.root.GcRootIndex.{GcRootIndex}
+use Rattle.gc_values.specs.declared.root.RootSlot.TheVariants as slot
 use Rattle.gc_store.specs.Roots.{is_of_store}
-use Rattle.gc_store.specs.declared.root.RootFault.{RootFault}
-use Rattle.gc_store.specs.declared.root.RootFault.TheVariants as fault
+use Rattle.gc_values.specs.declared.root.RootFault.{RootFault}
+use Rattle.gc_values.specs.declared.root.RootFault.TheVariants as fault
 use Rattle.gc_store.specs.OwnedRoots.{IsHandleOf, IsOfNone, ReleasesHandle}
 use Rattle.gc_store.specs.OwnedWords.{FindsHeldNumber, FindsHeld}
-use Rattle.gc_store.specs.Words.{owned_id, owned_at, FindsOwned, AreRising}
+use Rattle.gc_values.specs.Words.{owned_id, owned_at, FindsOwned, AreRising}
 use Rattle.gc_store.specs.Stores.{StoreTables, store_view, IsSound}
 use Rattle.gc_store.proofs.HandleWords.{same_store}
-use Rattle.gc_store.proofs.Keeping.{counts_of}
-use Rattle.gc_store.proofs.OwnedWords.{owned_here, owned_place, same_item}
+use Rattle.gc_values.proofs.Keeping.{counts_of}
+use Rattle.gc_values.proofs.OwnedWords.{owned_here, owned_place, same_item}
 
 -- one without handles is none that is sought
 pub unheld_none : (entries : List OwnedEntry) (number i : ℕ) → AreRising entries → FindsOwned entries number (Some i) → (get_or entries i empty_entry).handles ≡ 0 → FindsHeldNumber entries number None

@@ -23,17 +23,17 @@ use Rattle.gc_model.proofs.HoldsOwned.{holds_owned, holds_trimmed}
 use Rattle.gc_policy.proofs.HeldSums.{sum_part}
 use Rattle.gc_policy.specs.Accounts.{Account, HoldsAccount}
 use Rattle.gc_policy.proofs.AccountLemmas.{account_kept, own_account}
-use Rattle.gc_store.specs.declared.config.HeapConfig.{HeapConfig}
-use Rattle.gc_store.specs.declared.engine.StoreId.{StoreId}
-use Rattle.gc_store.specs.declared.root.GcRootIndex.{GcRootIndex}
-use Rattle.gc_store.specs.declared.root.RootFault.{RootFault}
-use Rattle.gc_store.specs.declared.root.RootFault.TheVariants as fault
+use Rattle.gc_values.specs.declared.config.HeapConfig.{HeapConfig}
+use Rattle.gc_values.specs.declared.engine.StoreId.{StoreId}
+use Rattle.gc_values.specs.declared.root.GcRootIndex.{GcRootIndex}
+use Rattle.gc_values.specs.declared.root.RootFault.{RootFault}
+use Rattle.gc_values.specs.declared.root.RootFault.TheVariants as fault
 use Rattle.gc_store.specs.Roots.{owned_handle, is_of_store, word_of, IsRootWord, NamesReference}
 use Rattle.gc_store.specs.OwnedRoots.{MakesOwned}
 use Rattle.gc_store.proofs.HandleWords.{word_of-wrong, names_nothing}
 use Rattle.gc_store.specs.OwnedWords.{HoldsThere, IsTrimmed, AddsOwned, OwnsWord, owned_is_full}
 use Rattle.gc_store.specs.Stores.{StoreTables, store_view, IsSound}
-use Rattle.gc_store.proofs.Keeping.{counts_of}
+use Rattle.gc_values.proofs.Keeping.{counts_of}
 
 -- Lists of rising numbers, of which one has those of the other, are no longer
 

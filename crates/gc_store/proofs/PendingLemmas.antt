@@ -11,16 +11,17 @@ use Rattle.gc_model.specs.Holds.{Placing, IsWord, Holds, IsException, ThrownBy}
 use Rattle.gc_model.proofs.HoldsPending.{holds_pending_set}
 use Rattle.gc_policy.specs.Accounts.{Account, IsAccount, HoldsAccount}
 use Rattle.gc_policy.proofs.AccountLemmas.{account_kept}
-use Rattle.gc_store.specs.declared.config.HeapConfig.{HeapConfig}
-use Rattle.gc_store.specs.declared.engine.StoreId.{StoreId}
-use Rattle.gc_store.specs.declared.root.GcRootIndex.{GcRootIndex}
-use Rattle.gc_store.specs.declared.root.RootFault.{RootFault}
-use Rattle.gc_store.specs.declared.root.RootFault.TheVariants as fault
-use Rattle.gc_store.specs.declared.root.RootedObject.{RootedObject}
-use Rattle.gc_store.specs.declared.root.RootedObject.TheVariants as rooted_object
+use Rattle.gc_values.specs.declared.config.HeapConfig.{HeapConfig}
+use Rattle.gc_values.specs.declared.engine.StoreId.{StoreId}
+use Rattle.gc_values.specs.declared.root.GcRootIndex.{GcRootIndex}
+use Rattle.gc_values.specs.declared.root.RootFault.{RootFault}
+use Rattle.gc_values.specs.declared.root.RootFault.TheVariants as fault
+use Rattle.gc_values.specs.declared.root.RootedObject.{RootedObject}
+use Rattle.gc_values.specs.declared.root.RootedObject.TheVariants as rooted_object
 use Rattle.gc_store.specs.Handles.{PushesRoot}
 use Rattle.gc_store.specs.Roots.{handle_of, word_of, is_of_store, IsRootWord, IsObject, IsReference}
-use Rattle.gc_store.specs.Stores.{StoreTables, store_view, slot_counts, IsSound, IsSameStore}
+use Rattle.gc_store.specs.Stores.{StoreTables, store_view, IsSound, IsSameStore}
+use Rattle.gc_values.specs.SlotCounts.{slot_counts}
 use Rattle.gc_store.specs.Thrown.{SetsPending, AnswersPending}
 use Rattle.gc_store.proofs.HandleWords.{word_of-wrong, names_nothing}
 

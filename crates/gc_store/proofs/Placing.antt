@@ -48,25 +48,26 @@ use Rattle.gc_policy.proofs.KeptPlaces.{fits-stay}
 use Rattle.gc_policy.proofs.MakingSimulation.{Shows, FollowsBeginning, beginning_follows, got_pages, stays_on}
 use Rattle.gc_policy.proofs.RetrySimulation.{MayHaveGrown, retry_follows}
 use Rattle.gc_policy.proofs.RootsShown.{SlotsInFrames}
-use Rattle.gc_store.specs.declared.request.Contents.{Contents}
-use Rattle.gc_store.specs.declared.request.Place.{Place}
-use Rattle.gc_store.specs.declared.root.GcRootIndex.{GcRootIndex}
-use Rattle.gc_store.specs.declared.root.RawValue.{RawValue}
-use Rattle.gc_store.specs.declared.root.RawValue.TheVariants as raw
-use Rattle.gc_store.specs.declared.root.RootSlot.TheVariants as slot
-use Rattle.gc_store.specs.declared.request.Place.TheVariants as place
-use Rattle.gc_store.specs.Filling.{asked_type, front_of, ContentsFit, ContentsStand, FillsBy, IsToFill}
-use Rattle.gc_store.specs.HeldSlots.{HasShape}
-use Rattle.gc_store.specs.Interning.{InternsAll, given_values}
-use Rattle.gc_store.specs.Kept.{KeptStands}
-use Rattle.gc_store.specs.Making.{BeginsMaking}
+use Rattle.gc_values.specs.declared.request.Contents.{Contents}
+use Rattle.gc_values.specs.declared.request.Place.{Place}
+use Rattle.gc_values.specs.declared.root.GcRootIndex.{GcRootIndex}
+use Rattle.gc_values.specs.declared.root.RawValue.{RawValue}
+use Rattle.gc_values.specs.declared.root.RawValue.TheVariants as raw
+use Rattle.gc_values.specs.declared.root.RootSlot.TheVariants as slot
+use Rattle.gc_values.specs.declared.request.Place.TheVariants as place
+use Rattle.gc_values.specs.Filling.{asked_type, front_of, ContentsFit, ContentsStand, FillsBy, IsToFill}
+use Rattle.gc_values.specs.HeldSlots.{HasShape}
+use Rattle.gc_values.specs.Interning.{InternsAll, given_values}
+use Rattle.gc_values.specs.Kept.{KeptStands}
+use Rattle.gc_values.specs.Making.{BeginsMaking}
 use Rattle.gc_store.specs.Places.{PlacesObject, HasIds}
 use Rattle.gc_store.specs.Stores.{is_full}
-use Rattle.gc_store.specs.Values.{RawStands, raw_side_values}
-use Rattle.gc_store.proofs.GivenValues.{HaveAllIds, held_all, keeps_all}
-use Rattle.gc_store.proofs.Keeping.{counts_of, Keeps, keeps-making, keeps-retried, keeps-trans, same_count}
+use Rattle.gc_store.specs.Values.{RawStands}
+use Rattle.gc_values.specs.RawValues.{raw_side_values}
+use Rattle.gc_values.proofs.GivenValues.{HaveAllIds, held_all, keeps_all}
+use Rattle.gc_values.proofs.Keeping.{counts_of, Keeps, keeps-making, keeps-retried, keeps-trans, same_count}
 use Rattle.gc_store.specs.Roots.{NamesReference}
-use Rattle.gc_store.specs.Words.{HandleRoots, handle_roots, AreRising, owned_id}
+use Rattle.gc_values.specs.Words.{HandleRoots, handle_roots, AreRising, owned_id}
 use Rattle.gc_store.proofs.KeptAgain.{IsRooted, with_more, rooted_again, rooted_more, stands_more}
 use Rattle.gc_store.proofs.NewObjects.{IsNew, HasAskedKind}
 use Rattle.gc_store.proofs.Pushing.{full_is}

@@ -14,15 +14,15 @@ use Rattle.gc_owner.specs.Owners.{OwnerView}
 use Rattle.gc_owner.specs.Growing.{OwnerState, state_of, owner_rules, NotBegun}
 use Rattle.gc_owner.specs.Makes.{LacksSpace}
 use Rattle.gc_owner.specs.Retry.{Rules, Retry, at_once, after_collection, after_both, after_growth, after_refusal, Ends}
-use Rattle.gc_store.specs.declared.request.Contents.{Contents}
-use Rattle.gc_store.specs.declared.request.Place.{Place}
-use Rattle.gc_store.specs.declared.store.PlaceFault.{PlaceFault}
-use Rattle.gc_store.specs.declared.store.PlaceFault.TheVariants as fault
+use Rattle.gc_values.specs.declared.request.Contents.{Contents}
+use Rattle.gc_values.specs.declared.request.Place.{Place}
+use Rattle.gc_values.specs.declared.faults.PlaceFault.{PlaceFault}
+use Rattle.gc_values.specs.declared.faults.PlaceFault.TheVariants as fault
 use Rattle.gc_policy.specs.Accounts.{Account, HoldsAccount, counted, is_due}
 use Rattle.gc_policy.specs.Policy as policy
 use Rattle.gc_policy.specs.Policy.{PolicyState, policy_state, count_try, Prepares, Prepared}
 use Rattle.gc_policy.specs.Shown.{shown}
-use Rattle.gc_store.specs.Making.{BeginsMaking, MakesRooted}
+use Rattle.gc_values.specs.Making.{BeginsMaking, MakesRooted}
 use Rattle.gc_store.specs.Places.{HasIds, Places, LacksPlace, MayGetPages, bytes_of}
 use Rattle.gc_store.specs.Stores.{is_full}
 use Rattle.gc_policy.proofs.CountedTries.{counted_store, counted_holds}
@@ -30,7 +30,7 @@ use Rattle.gc_policy.proofs.KeptPlaces.{lacks-stay}
 use Rattle.gc_policy.proofs.MakingSimulation.{Shows, FollowsBeginning, refusal_follows, no_heap_follows, got_pages, stays_on}
 use Rattle.gc_policy.proofs.RetrySimulation.{MayHaveGrown, retry_follows, pause_follows}
 use Rattle.gc_view.specs.Heaps.{HeapObject}
-use Rattle.gc_store.proofs.Keeping.{counts_of, Keeps, keeps-trans, keeps-making, keeps-retried, keeps-paused, same_count}
+use Rattle.gc_values.proofs.Keeping.{counts_of, Keeps, keeps-trans, keeps-making, keeps-retried, keeps-paused, same_count}
 use Rattle.gc_store.proofs.NewObjects.{IsNew}
 use Rattle.gc_store.proofs.Placing.{IsStart, KeepsRest, too_large_is, shows, begun}
 use Rattle.gc_store.proofs.Pushing.{full_is}

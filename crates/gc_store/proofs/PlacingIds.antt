@@ -12,18 +12,19 @@ use Rattle.gc_model.proofs.HoldsInterned.{with_ids}
 use Rattle.gc_policy.specs.Accounts.{Account, HoldsAccount}
 use Rattle.gc_policy.specs.Policy as policy
 use Rattle.gc_policy.specs.Policy.{policy_state}
-use Rattle.gc_store.specs.declared.store.PlaceFault.{PlaceFault}
-use Rattle.gc_store.specs.declared.store.PlaceFault.TheVariants as fault
-use Rattle.gc_store.specs.declared.interned.InternedValues.{InternedValues}
-use Rattle.gc_store.specs.Interning.{FindsRoom, HaveAllIdsLeft, InternsGiven}
+use Rattle.gc_values.specs.declared.faults.PlaceFault.{PlaceFault}
+use Rattle.gc_values.specs.declared.faults.PlaceFault.TheVariants as fault
+use Rattle.gc_values.specs.declared.interned.InternedValues.{InternedValues}
+use Rattle.gc_values.specs.Interning.{FindsRoom, HaveAllIdsLeft, InternsGiven, ids_of}
 use Rattle.gc_store.specs.Places.{HasIds, Places}
-use Rattle.gc_store.specs.Stores.{ids_of}
-use Rattle.gc_store.proofs.GivenValues.{most_left, most_passed, past_conts, past_functions}
-use Rattle.gc_store.specs.declared.root.GcRootIndex.{GcRootIndex}
-use Rattle.gc_store.specs.declared.root.RawValue.{RawValue}
-use Rattle.gc_store.specs.declared.write.WriteFault.{WriteFault}
-use Rattle.gc_store.specs.declared.write.WriteFault.TheVariants as write_fault
-use Rattle.gc_store.specs.Values.{WritesValue, raw_side_values}
+use Rattle.gc_values.proofs.GivenValues.{most_left, most_passed}
+use Rattle.gc_store.proofs.StandingValues.{past_conts, past_functions}
+use Rattle.gc_values.specs.declared.root.GcRootIndex.{GcRootIndex}
+use Rattle.gc_values.specs.declared.root.RawValue.{RawValue}
+use Rattle.gc_values.specs.declared.faults.WriteFault.{WriteFault}
+use Rattle.gc_values.specs.declared.faults.WriteFault.TheVariants as write_fault
+use Rattle.gc_store.specs.Values.{WritesValue}
+use Rattle.gc_values.specs.RawValues.{raw_side_values}
 
 -- the same ids
 pub same_held : {D : Type 0} (layouts : Layouts) (s : StoreView D) (t : Table D) (a : Account) → HoldsAccount layouts s t a → (ids : InternedIds) → ids ≡ s.ids → HoldsAccount layouts (with_ids ids s) t a

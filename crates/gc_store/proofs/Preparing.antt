@@ -25,9 +25,9 @@ use Rattle.gc_policy.proofs.KeptPlaces.{fits-stay, lacks-stay}
 use Rattle.gc_policy.proofs.MakingSimulation.{Shows, FollowsBeginning, beginning_follows, refusal_follows, no_heap_follows, got_pages, stays_on}
 use Rattle.gc_policy.proofs.RetrySimulation.{MayHaveGrown, retry_follows, pause_follows}
 use Rattle.gc_policy.proofs.RootsShown.{SlotsInFrames}
-use Rattle.gc_store.specs.declared.root.GcRootIndex.{GcRootIndex}
-use Rattle.gc_store.specs.declared.root.RootSlot.TheVariants as slot
-use Rattle.gc_store.specs.Making.{BeginsMaking}
+use Rattle.gc_values.specs.declared.root.GcRootIndex.{GcRootIndex}
+use Rattle.gc_values.specs.declared.root.RootSlot.TheVariants as slot
+use Rattle.gc_values.specs.Making.{BeginsMaking}
 use Rattle.gc_store.specs.Places.{PlacesObject, HasIds, LacksPlace, WantsPlace, MayGetPages, bytes_of}
 use Rattle.gc_store.proofs.SpareLemmas.{holds_roomy}
 

@@ -21,7 +21,7 @@ use Rattle.gc_heap.specs.Heap.{array_size}
 use Rattle.gc_view.specs.Slots.{StorageSlot, field_slots, element_slots, elements_from, shape_slots, shape_size}
 use Rattle.gc_view.proofs.SlotLemmas.{length-field_slots, length-element_slots}
 use Rattle.gc_store.specs.Roots.{store_roots}
-use Rattle.gc_store.specs.Words.{HandleRoots}
+use Rattle.gc_values.specs.Words.{HandleRoots}
 use Rattle.gc_model.specs.Values.{Value, numeric, i32, Object, struct, array, exception}
 use Rattle.gc_model.specs.Reach.{IsHost, object_values}
 use Rattle.gc_model.specs.Sizes.{fields_size, elements_size, exception_size, exn_fields_at, object_size}
@@ -39,20 +39,22 @@ use Rattle.gc_model.proofs.MadeObjects.{struct_stands, array_stands, exception_s
 use Rattle.gc_model.proofs.ObjectShapes.{shape_at, exception_shape, type_of_slot, FieldOfSlot, field_of_slot}
 use Rattle.gc_model.proofs.StoredValues.{kept_value, length-stored_in, mapped_from, typed-struct, typed-exception, typed-array, typed-filled, typed-bytes}
 use Rattle.gc_model.proofs.Typing.{IsTypedObject}
-use Rattle.gc_store.specs.declared.request.Place.{Place}
-use Rattle.gc_store.specs.declared.request.Place.TheVariants as place
-use Rattle.gc_store.specs.declared.request.Contents.{Contents}
-use Rattle.gc_store.specs.declared.request.Contents.TheVariants as contents
-use Rattle.gc_store.specs.declared.root.RawValue.{RawValue}
-use Rattle.gc_store.specs.Filling.{asked_type, BytesFit, ContentsFit, ContentsStand, EachFits, EachStands, SameFits, SameStands}
-use Rattle.gc_store.specs.HeldSlots.{HasShape}
-use Rattle.gc_store.specs.Interning.{given_values}
-use Rattle.gc_store.specs.Making.{IsSizeOf}
-use Rattle.gc_store.specs.Kept.{StoredStands}
+use Rattle.gc_values.specs.declared.request.Place.{Place}
+use Rattle.gc_values.specs.declared.request.Place.TheVariants as place
+use Rattle.gc_values.specs.declared.request.Contents.{Contents}
+use Rattle.gc_values.specs.declared.request.Contents.TheVariants as contents
+use Rattle.gc_values.specs.declared.root.RawValue.{RawValue}
+use Rattle.gc_values.specs.Filling.{asked_type, BytesFit, ContentsFit, ContentsStand, EachFits, EachStands, SameFits, SameStands}
+use Rattle.gc_values.specs.HeldSlots.{HasShape}
+use Rattle.gc_values.specs.Interning.{given_values}
+use Rattle.gc_values.specs.Making.{IsSizeOf}
+use Rattle.gc_values.specs.Kept.{StoredStands}
 use Rattle.gc_store.specs.Requests.{CanPlaceIn, CanPlaceFields, CanPlaceStruct, CanPlaceException, IsObjectOf, fields_of, exn_fields_of, element_of, stored_as}
-use Rattle.gc_store.specs.Tagging.{HasTag}
-use Rattle.gc_store.specs.Values.{AllStand, CanStore, RawStands, raw_side_values}
-use Rattle.gc_store.proofs.GivenValues.{HaveAllIds, have_one, all-stand, raw-stands}
+use Rattle.gc_values.specs.Tagging.{HasTag}
+use Rattle.gc_store.specs.Values.{AllStand, CanStore, RawStands}
+use Rattle.gc_values.specs.RawValues.{raw_side_values}
+use Rattle.gc_values.proofs.GivenValues.{HaveAllIds, have_one}
+use Rattle.gc_store.proofs.StandingValues.{all-stand, raw-stands}
 use Rattle.gc_store.proofs.NewObjects.{IsNew, new_struct_is, new_exn_is, new_array_is, struct_size_of, exn_size_of, array_size_of}
 use Rattle.gc_store.proofs.KeptAgain.{IsRooted, rooted_kept}
 use Rattle.gc_store.proofs.WritingAt.{is_rooted, storable_form, value_of}

@@ -11,7 +11,7 @@ use Rattle.gc_owner.specs.RootColumns.{global_count, empty_slot}
 use Rattle.gc_store.specs.declared.root_words.RootWord.{RootWord}
 use Rattle.gc_store.specs.declared.root_words.RootName.TheVariants as name
 use Rattle.gc_store.specs.RootWords.{numbered, root_word, global_root, slot_root, slot_words, slot_roots, owned_root, scoped_root, handle_roots}
-use Rattle.gc_store.specs.Stores.{slot_counts}
+use Rattle.gc_values.specs.SlotCounts.{slot_counts}
 
 pub append_front : {X : Type 0} (xs ys : List X) (i : ℕ) → i < length xs → slice_get (xs ++ ys) i ≡ slice_get xs i
 append_front [] ys i within = absurd (omega (arith, within))

@@ -12,10 +12,10 @@ use Rattle.gc_view.specs.Heaps.{HeapObject}
 use Rattle.gc_model.specs.Stores.{StoreView}
 use Rattle.gc_model.specs.Forms.{Names as Naming, naming}
 use Rattle.gc_model.specs.Holds.{Placing, IsWord, Holds, Stands}
-use Rattle.gc_store.specs.declared.root.RootedObject.{RootedObject}
-use Rattle.gc_store.specs.declared.root.RootedObject.TheVariants as rooted_object
+use Rattle.gc_values.specs.declared.root.RootedObject.{RootedObject}
+use Rattle.gc_values.specs.declared.root.RootedObject.TheVariants as rooted_object
 use Rattle.gc_store.specs.Roots.{IsReference, IsObject}
-use Rattle.gc_store.specs.Described.{IsOfKindAs, TellsHeld}
+use Rattle.gc_values.specs.Described.{IsOfKindAs, TellsHeld}
 
 -- What a held object is, as the table has it
 stands_object : {D : Type 0} (layouts : Layouts) (types : List Declaration) (names : Naming) (entry : Object D) (h : HeapObject) (answer : RootedObject) → Stands layouts types names entry h → IsOfKindAs h.kind h answer → IsObject (Some entry) answer

@@ -10,7 +10,7 @@ use Rattle.gc_model.specs.Table.{Table}
 use Rattle.gc_model.specs.Stores.{StoreView}
 use Rattle.gc_model.specs.Holds.{Placing, Holds}
 use Rattle.gc_model.proofs.Words.{word_same}
-use Rattle.gc_store.specs.declared.root.GcRootIndex.{GcRootIndex}
+use Rattle.gc_values.specs.declared.root.GcRootIndex.{GcRootIndex}
 use Rattle.gc_store.specs.Roots.{word_of, NamesReference, NamesNothing}
 use Rattle.gc_store.proofs.HandleWords.{named_word, names_word}
 

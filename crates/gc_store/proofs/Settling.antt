@@ -20,8 +20,8 @@ use Rattle.gc_policy.proofs.Frames.{frame_words}
 use Rattle.gc_policy.proofs.RootsShown.{SlotsInFrames}
 use Rattle.gc_store.specs.Settled.{IsSettled}
 use Rattle.gc_store.specs.Stores.{StoreTables, store_view}
-use Rattle.gc_store.specs.declared.engine.StoreId.{StoreId}
-use Rattle.gc_store.specs.declared.config.HeapConfig.{HeapConfig}
+use Rattle.gc_values.specs.declared.engine.StoreId.{StoreId}
+use Rattle.gc_values.specs.declared.config.HeapConfig.{HeapConfig}
 
 -- roots that are no frame slots are on no stack
 off_stack : (kind : ℕ) (words : List ℕ) (r : Root) → Contains (listed_as kind false words) r → r.on_stack ≡ false

@@ -18,17 +18,17 @@ use Rattle.gc_model.proofs.SlotsSet.{slot_beside}
 use Rattle.gc_model.proofs.HoldsGlobals.{holds_global_set}
 use Rattle.gc_policy.specs.Accounts.{Account, IsAccount, HoldsAccount}
 use Rattle.gc_policy.proofs.AccountLemmas.{account_kept}
-use Rattle.gc_store.specs.declared.config.HeapConfig.{HeapConfig}
-use Rattle.gc_store.specs.declared.engine.StoreId.{StoreId}
-use Rattle.gc_store.specs.declared.root.GcRootIndex.{GcRootIndex}
-use Rattle.gc_store.specs.declared.root.RootFault.{RootFault}
-use Rattle.gc_store.specs.declared.root.RootFault.TheVariants as fault
+use Rattle.gc_values.specs.declared.config.HeapConfig.{HeapConfig}
+use Rattle.gc_values.specs.declared.engine.StoreId.{StoreId}
+use Rattle.gc_values.specs.declared.root.GcRootIndex.{GcRootIndex}
+use Rattle.gc_values.specs.declared.root.RootFault.{RootFault}
+use Rattle.gc_values.specs.declared.root.RootFault.TheVariants as fault
 use Rattle.gc_store.specs.Reading.{ReadsReference, reference_value}
 use Rattle.gc_store.specs.Roots.{IsRootWord}
 use Rattle.gc_store.specs.Slots.{told_of_slot, FindsWord, ReadsSlot, slot_value}
 use Rattle.gc_store.specs.Stores.{StoreTables, store_view, IsSound}
 use Rattle.gc_store.specs.Values.{ReadsValue}
-use Rattle.gc_store.proofs.Keeping.{counts_of}
+use Rattle.gc_values.proofs.Keeping.{counts_of}
 
 -- an owner set a global
 module _ {D : Type 0} (layouts : Layouts) (id : StoreId) (config : HeapConfig) (tables : StoreTables) (tries : ℕ) (old new : OwnerView D) (index : ℕ) (class : GcClass) (word : ℕ)

@@ -18,15 +18,17 @@ use Rattle.gc_model.specs.Holds.{Holds, KindHolds}
 use Rattle.gc_policy.specs.Collects.{IsPlaced}
 use Rattle.gc_policy.specs.Accounts.{no_account}
 use Rattle.gc_policy.proofs.HeapGaps.{told_nowhere}
-use Rattle.gc_store.specs.declared.engine.StoreId.{StoreId}
-use Rattle.gc_store.specs.declared.config.HeapConfig.{HeapConfig}
-use Rattle.gc_store.specs.declared.interned.InternedValues.{InternedValues}
-use Rattle.gc_store.specs.declared.subtypes.AskedPairs.{AskedPairs}
-use Rattle.gc_store.specs.declared.subtypes.TypePair.{TypePair}
-use Rattle.gc_store.specs.Subtypes.{kept_count}
+use Rattle.gc_values.specs.declared.engine.StoreId.{StoreId}
+use Rattle.gc_values.specs.declared.config.HeapConfig.{HeapConfig}
+use Rattle.gc_values.specs.declared.interned.InternedValues.{InternedValues}
+use Rattle.gc_values.specs.declared.subtypes.AskedPairs.{AskedPairs}
+use Rattle.gc_values.specs.declared.subtypes.TypePair.{TypePair}
+use Rattle.gc_values.specs.Subtypes.{kept_count}
 use Rattle.std.proofs.lemmas.List.{nil_from_length}
 use Rattle.gc_store.specs.Collectings.{IsSpent, spent_table}
-use Rattle.gc_store.specs.Stores.{StoreTables, ids_of, tables_of, store_view, slot_counts, IsSound, HoldsStart, ShowsNothing, configured, ids_of, tables_of}
+use Rattle.gc_store.specs.Stores.{StoreTables, tables_of, store_view, IsSound, HoldsStart, ShowsNothing, configured, tables_of}
+use Rattle.gc_values.specs.Interning.{ids_of, ids_of}
+use Rattle.gc_values.specs.SlotCounts.{slot_counts}
 
 -- The store has no account to speak of: nothing was allocated, counted or moved to an upper half.
 pub record CountsNothing {D : Type 0} (s : StoreView D) : Type 0 where

@@ -7,8 +7,8 @@ use Rattle.gc_owner.specs.Counting.{CountsSteps}
 use Rattle.gc_owner.specs.Owners.{OwnerValue, Kind, Increments, IsUnderWay}
 use Rattle.gc_model.specs.Stores.{StoreView}
 use Rattle.gc_model.specs.Holds.{HoldsTable}
-use Rattle.gc_store.specs.declared.engine.StoreId.{StoreId}
-use Rattle.gc_store.specs.declared.config.HeapConfig.{HeapConfig}
+use Rattle.gc_values.specs.declared.engine.StoreId.{StoreId}
+use Rattle.gc_values.specs.declared.config.HeapConfig.{HeapConfig}
 use Rattle.gc_store.specs.Suspensions.{SuspendedView, IsSuspended, waits, goes, is_over}
 use Rattle.gc_store.specs.Stores.{StoreTables}
 use Rattle.gc_store.specs.Collectings.{IsAsked, IsRunning, IsOpen, IsClosed, DoesIncrement, CountsCollection, GivesStore, IsCollected}

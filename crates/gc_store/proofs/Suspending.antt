@@ -8,8 +8,8 @@ use Rattle.gc_owner.specs.RootColumns.{RootsView, AreFrames}
 use Rattle.gc_owner.specs.Owners.{OwnerView, OwnerValue, Kind, Trims, Collects, IsGoing, IsUnderWay, IsEnded, start_of}
 use Rattle.gc_model.specs.Stores.{StoreView}
 use Rattle.gc_model.proofs.OwnedRoots.{trimmed_held}
-use Rattle.gc_store.specs.declared.engine.StoreId.{StoreId}
-use Rattle.gc_store.specs.declared.config.HeapConfig.{HeapConfig}
+use Rattle.gc_values.specs.declared.engine.StoreId.{StoreId}
+use Rattle.gc_values.specs.declared.config.HeapConfig.{HeapConfig}
 use Rattle.gc_store.specs.Stores.{StoreTables, store_view, IsSound}
 use Rattle.gc_store.specs.Suspensions.{SuspendedView, suspended_view, BeganSound, IsSuspended, waits, goes, is_over}
 use Rattle.gc_store.specs.Collectings.{IsCollected, IsTrimmedStore, WasStore, IsTrimmedFrom, IsAsked, IsRunning, IsOpen, IsClosed}

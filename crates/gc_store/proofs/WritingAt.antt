@@ -27,19 +27,21 @@ use Rattle.gc_model.proofs.HoldsWrite.{IsWrittenObject, holds_write}
 use Rattle.gc_model.proofs.ObjectShapes.{IsSlotOf}
 use Rattle.gc_policy.specs.Accounts.{Account, HoldsAccount}
 use Rattle.gc_policy.proofs.AccountLemmas.{account_kept, some_account}
-use Rattle.gc_store.specs.declared.root.GcRootIndex.{GcRootIndex}
-use Rattle.gc_store.specs.declared.root.RawValue.{RawValue}
-use Rattle.gc_store.specs.declared.root.RawValue.TheVariants as raw
-use Rattle.gc_store.specs.declared.slot.Slot.{Slot}
-use Rattle.gc_store.specs.declared.stored.Stored.{Stored}
-use Rattle.gc_store.specs.Filling.{slot_bytes}
-use Rattle.gc_store.specs.HeldSlots.{FindsHeldSlot, storage_slot}
-use Rattle.gc_store.specs.Kept.{code_of, FitsForm, IsKept, KeptAs, KeptStands, raw_form, StoredStands}
+use Rattle.gc_values.specs.declared.root.GcRootIndex.{GcRootIndex}
+use Rattle.gc_values.specs.declared.root.RawValue.{RawValue}
+use Rattle.gc_values.specs.declared.root.RawValue.TheVariants as raw
+use Rattle.gc_values.specs.declared.slot.Slot.{Slot}
+use Rattle.gc_values.specs.declared.stored.Stored.{Stored}
+use Rattle.gc_values.specs.Filling.{slot_bytes}
+use Rattle.gc_values.specs.HeldSlots.{FindsHeldSlot, storage_slot}
+use Rattle.gc_values.specs.Kept.{code_of, FitsForm, IsKept, KeptAs, KeptStands, raw_form, StoredStands}
 use Rattle.gc_store.specs.Roots.{store_roots, word_of}
-use Rattle.gc_store.specs.Values.{CanStore, CanWrite, NamesLive, RawStands, KeepsValue, raw_side_values}
-use Rattle.gc_store.specs.Interning.{InternsAll}
-use Rattle.gc_store.proofs.EachValue.{kept_encoded}
-use Rattle.gc_store.proofs.GivenValues.{held_all, interned_ids, keeps_all, raw-stands}
+use Rattle.gc_store.specs.Values.{CanStore, CanWrite, NamesLive, RawStands, KeepsValue}
+use Rattle.gc_values.specs.RawValues.{raw_side_values}
+use Rattle.gc_values.specs.Interning.{InternsAll}
+use Rattle.gc_values.proofs.EachValue.{kept_encoded}
+use Rattle.gc_values.proofs.GivenValues.{held_all, interned_ids, keeps_all}
+use Rattle.gc_store.proofs.StandingValues.{raw-stands}
 use Rattle.gc_store.proofs.KeptAgain.{IsRooted, rooted_kept}
 use Rattle.gc_store.proofs.LyingAt.{LyingAt, lying_at, slot_is_found}
 use Rattle.gc_store.proofs.HandleWords.{live_has_word, named_word, named_of_store, own_word, names_word}

@@ -7,11 +7,11 @@ use Rattle.gc_model.specs.Values.{at, host}
 use Rattle.gc_model.specs.Table.{Table, set_host}
 use Rattle.gc_model.specs.Stores.{StoreView, with_host_at}
 use Rattle.gc_policy.specs.Accounts.{Account, HoldsAccount}
-use Rattle.gc_store.specs.declared.root.GcRootIndex.{GcRootIndex}
+use Rattle.gc_values.specs.declared.root.GcRootIndex.{GcRootIndex}
 use Rattle.gc_store.specs.declared.hosts.HostDataFault.{HostDataFault}
 use Rattle.gc_store.specs.declared.hosts.HostDataFault.TheVariants as fault
-use Rattle.gc_store.specs.declared.root.RootFault.{RootFault}
-use Rattle.gc_store.specs.declared.root.RootFault.TheVariants as root_fault
+use Rattle.gc_values.specs.declared.root.RootFault.{RootFault}
+use Rattle.gc_values.specs.declared.root.RootFault.TheVariants as root_fault
 use Rattle.gc_store.specs.Roots.{NamesReference}
 use Rattle.gc_store.specs.Stores.{IsSameStore}
 use Rattle.gc_store.specs.contracts.store.Store.{the_row}

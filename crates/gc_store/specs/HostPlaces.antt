@@ -8,7 +8,7 @@ use Rattle.gc_model.specs.Stores.{StoreView}
 use Rattle.gc_policy.specs.Policy.{PolicyState}
 use Rattle.gc_store.specs.declared.hosts.PlaceHostFault.{PlaceHostFault}
 use Rattle.gc_store.specs.declared.hosts.PlaceHostFault.TheVariants as fault
-use Rattle.gc_store.specs.declared.root.GcRootIndex.{GcRootIndex}
+use Rattle.gc_values.specs.declared.root.GcRootIndex.{GcRootIndex}
 use Rattle.gc_store.specs.Places.{PlacesObject, LacksPlace, WantsPlace, RefusesPlace}
 
 -- What placing a host object answers and leaves, for a table and an account that the store held. None is too large.

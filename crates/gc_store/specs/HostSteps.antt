@@ -17,8 +17,8 @@ use Rattle.gc_model.specs.Holds.{Placing, IsHostAt}
 use Rattle.gc_policy.specs.HostMaking.{MadeHost}
 use Rattle.gc_store.specs.declared.hosts.PlaceHostFault.{PlaceHostFault}
 use Rattle.gc_store.specs.declared.hosts.PlaceHostFault.TheVariants as fault
-use Rattle.gc_store.specs.declared.root.RootFault.{RootFault}
-use Rattle.gc_store.specs.Making.{BeginsMaking}
+use Rattle.gc_values.specs.declared.root.RootFault.{RootFault}
+use Rattle.gc_values.specs.Making.{BeginsMaking}
 
 -- what allocating a host object of an owner answers and leaves
 abbrev pub AllocatesHost : {D : Type 0} → Layouts → D → OwnerState D → OwnerState D → Result ℕ (PlaceHostFault D) → Type 0

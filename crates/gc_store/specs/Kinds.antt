@@ -7,7 +7,7 @@ use Rattle.gc_model.specs.Values.{Reference, null, small, at, Object, struct, ar
 use Rattle.gc_model.specs.Table.{Table}
 use Rattle.gc_model.specs.Stores.{StoreView}
 use Rattle.gc_model.specs.Holds.{HoldsTable}
-use Rattle.gc_store.specs.declared.root.GcRootIndex.{GcRootIndex}
+use Rattle.gc_values.specs.declared.root.GcRootIndex.{GcRootIndex}
 use Rattle.gc_store.specs.Roots.{NamesScoped, NamesReference}
 
 -- the kind of an object

@@ -7,9 +7,9 @@ use Rattle.gc_model.specs.Table.{Table, Owned}
 use Rattle.gc_model.specs.OwnedRoots.{own, add_handle, drop_handle, owned_full}
 use Rattle.gc_model.specs.Stores.{StoreView}
 use Rattle.gc_policy.specs.Accounts.{Account, HoldsAccount}
-use Rattle.gc_store.specs.declared.root.GcRootIndex.{GcRootIndex}
-use Rattle.gc_store.specs.declared.root.RootFault.{RootFault}
-use Rattle.gc_store.specs.declared.root.RootFault.TheVariants as fault
+use Rattle.gc_values.specs.declared.root.GcRootIndex.{GcRootIndex}
+use Rattle.gc_values.specs.declared.root.RootFault.{RootFault}
+use Rattle.gc_values.specs.declared.root.RootFault.TheVariants as fault
 use Rattle.gc_store.specs.Roots.{is_of_store, owned_handle, NamesReference, NamesNothing}
 
 -- an owned root was made for what the handle names, and the answer is its handle

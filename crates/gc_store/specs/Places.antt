@@ -10,9 +10,9 @@ use Rattle.gc_model.specs.Sizes.{object_size}
 use Rattle.gc_model.specs.Allocation.{Limits, too_large, Allocates, LacksMemory, GetsPages}
 use Rattle.gc_model.specs.Stores.{StoreView}
 use Rattle.gc_heap.specs.Heap.{HasRoom}
-use Rattle.gc_store.specs.declared.root.GcRootIndex.{GcRootIndex}
-use Rattle.gc_store.specs.declared.store.PlaceFault.{PlaceFault}
-use Rattle.gc_store.specs.declared.store.PlaceFault.TheVariants as fault
+use Rattle.gc_values.specs.declared.root.GcRootIndex.{GcRootIndex}
+use Rattle.gc_values.specs.declared.faults.PlaceFault.{PlaceFault}
+use Rattle.gc_values.specs.declared.faults.PlaceFault.TheVariants as fault
 use Rattle.gc_store.specs.Roots.{handle_of}
 use Rattle.gc_policy.specs.Accounts.{HoldsAccount, with_held}
 use Rattle.gc_policy.specs.Policy.{PolicyState, IsPlaceIn, Prepares, Prepared}

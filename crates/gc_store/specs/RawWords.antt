@@ -7,8 +7,8 @@ use Rattle.gc_model.specs.Table.{Table, push}
 use Rattle.gc_model.specs.Stores.{StoreView}
 use Rattle.gc_model.specs.Holds.{Placing, Holds, IsWord}
 use Rattle.gc_policy.specs.Accounts.{Account, HoldsAccount}
-use Rattle.gc_store.specs.declared.root.GcRootIndex.{GcRootIndex}
-use Rattle.gc_store.specs.declared.root.RootFault.{RootFault}
+use Rattle.gc_values.specs.declared.root.GcRootIndex.{GcRootIndex}
+use Rattle.gc_values.specs.declared.root.RootFault.{RootFault}
 use Rattle.gc_store.specs.Handles.{PushesRoot}
 use Rattle.gc_store.specs.Kinds.{IsOfKind}
 use Rattle.gc_store.specs.OwnedWords.{HoldsThere, OwnsWord}

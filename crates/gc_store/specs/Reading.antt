@@ -8,14 +8,14 @@ use Rattle.gc_model.specs.Stores.{StoreView}
 use Rattle.gc_model.specs.Forms.{naming}
 use Rattle.gc_model.specs.Holds.{Holds, Placing, IsWord}
 use Rattle.gc_policy.specs.Accounts.{Account, IsAccount}
-use Rattle.gc_store.specs.declared.stored.Found.{Found}
-use Rattle.gc_store.specs.declared.root.GcRootIndex.{GcRootIndex}
-use Rattle.gc_store.specs.declared.root.RawValue.{RawValue}
-use Rattle.gc_store.specs.declared.root.RawValue.TheVariants as raw
-use Rattle.gc_store.specs.declared.root.RootFault.{RootFault}
+use Rattle.gc_values.specs.declared.stored.Found.{Found}
+use Rattle.gc_values.specs.declared.root.GcRootIndex.{GcRootIndex}
+use Rattle.gc_values.specs.declared.root.RawValue.{RawValue}
+use Rattle.gc_values.specs.declared.root.RawValue.TheVariants as raw
+use Rattle.gc_values.specs.declared.root.RootFault.{RootFault}
 use Rattle.gc_store.specs.Roots.{HasValue, IsRootWord}
 use Rattle.gc_store.specs.Values.{ReadsValue}
-use Rattle.gc_store.specs.Kept.{FoundStands}
+use Rattle.gc_values.specs.Kept.{FoundStands}
 
 -- what is found is the value of the table, for each table and placing that the store holds
 abbrev pub FindsValue : (D : Type 0) → Layouts → StoreView D → GcRootIndex → ℕ → Found → Type 0

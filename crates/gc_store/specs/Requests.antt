@@ -10,11 +10,11 @@ use Rattle.gc_model.specs.Sizes.{exn_fields_at}
 use Rattle.gc_model.specs.Stored.{stored, stored_in, byte_value}
 use Rattle.gc_model.specs.Table.{Table}
 use Rattle.gc_model.specs.Stores.{StoreView}
-use Rattle.gc_store.specs.declared.request.Place.{Place}
-use Rattle.gc_store.specs.declared.request.Place.TheVariants as place
-use Rattle.gc_store.specs.declared.request.Contents.{Contents}
-use Rattle.gc_store.specs.declared.request.Contents.TheVariants as contents
-use Rattle.gc_store.specs.declared.root.RawValue.{RawValue}
+use Rattle.gc_values.specs.declared.request.Place.{Place}
+use Rattle.gc_values.specs.declared.request.Place.TheVariants as place
+use Rattle.gc_values.specs.declared.request.Contents.{Contents}
+use Rattle.gc_values.specs.declared.request.Contents.TheVariants as contents
+use Rattle.gc_values.specs.declared.root.RawValue.{RawValue}
 use Rattle.gc_store.specs.Values.{RawStands, AllStand, CanStore}
 
 -- the fields of a struct type; none where there is no such type

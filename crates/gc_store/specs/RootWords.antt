@@ -9,13 +9,13 @@ use Rattle.gc_model.specs.Table.{Table, push}
 use Rattle.gc_model.specs.Holds.{Placing, IsWord}
 use Rattle.gc_model.specs.Stores.{StoreView}
 use Rattle.gc_policy.specs.Accounts.{Account}
-use Rattle.gc_store.specs.declared.root.RootFault.{RootFault}
+use Rattle.gc_values.specs.declared.root.RootFault.{RootFault}
 use Rattle.gc_store.specs.declared.root_words.RootName.{RootName}
 use Rattle.gc_store.specs.declared.root_words.RootName.TheVariants as name
 use Rattle.gc_store.specs.declared.root_words.RootWord.{RootWord}
 use Rattle.gc_store.specs.declared.root_words.RootAt.{RootAt}
 use Rattle.gc_store.specs.declared.root_words.RootAt.TheVariants as found
-use Rattle.gc_store.specs.Words.{owned_id}
+use Rattle.gc_values.specs.Words.{owned_id}
 use Rattle.gc_store.specs.Handles.{PushesRoot}
 use Rattle.gc_store.specs.OwnedWords.{HoldsThere}
 

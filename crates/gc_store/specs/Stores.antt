@@ -1,5 +1,5 @@
 -- What a store's calls do, for every table that it held.
-use Rattle.std.specs.Prelude.{◌≡◌, ℕ, ◌+◌, ◌-◌, ◌^◌, ◌==◌, ◌||◌, nat_le, Bool, true, false, List, [], Result, Ok, Err, length, map}
+use Rattle.std.specs.Prelude.{◌≡◌, ℕ, ◌+◌, ◌-◌, ◌^◌, ◌==◌, ◌||◌, nat_le, Bool, true, false, List, [], Result, Ok, Err, length}
 use Rattle.std.specs.Option.{option_map}
 use Rattle.std.specs.Int.NonZero.{non_zero_u32_get}
 use Rattle.gc_types.specs.declared.kind.Layouts.{Layouts}
@@ -11,22 +11,20 @@ use Rattle.gc_model.specs.Table.{Table, start, declare}
 use Rattle.gc_model.specs.SideValues.{InternedIds, no_ids}
 use Rattle.gc_model.specs.Stores.{StoreView, unset_globals, empty_store}
 use Rattle.gc_policy.specs.Accounts.{Account, no_account, HoldsAccount}
-use Rattle.gc_owner.specs.declared.entry.SlotEntry.{SlotEntry}
 use Rattle.gc_owner.specs.Owners.{OwnerView}
 use Rattle.gc_policy.specs.Shown.{shown}
-use Rattle.gc_store.specs.declared.engine.StoreId.{StoreId}
-use Rattle.gc_store.specs.declared.config.HeapConfig.{HeapConfig}
-use Rattle.gc_store.specs.declared.interned.InternedValues.{InternedValues}
-use Rattle.gc_store.specs.declared.subtypes.AskedPairs.{AskedPairs}
-use Rattle.gc_store.specs.Subtypes.{pairs_of}
+use Rattle.gc_values.specs.declared.engine.StoreId.{StoreId}
+use Rattle.gc_values.specs.declared.config.HeapConfig.{HeapConfig}
+use Rattle.gc_values.specs.declared.interned.InternedValues.{InternedValues}
+use Rattle.gc_values.specs.declared.subtypes.AskedPairs.{AskedPairs}
+use Rattle.gc_values.specs.Interning.{ids_of}
+use Rattle.gc_values.specs.SlotCounts.{slot_counts}
+use Rattle.gc_values.specs.Subtypes.{pairs_of}
 
 -- What a store keeps beside its heap's owner: the ids of what is interned, and the pairs of types that it was asked of.
 pub record StoreTables : Type 0 where
   pub ids : InternedIds
   pub kept_pairs : List (ℕ × ℕ)
-
-abbrev pub ids_of : InternedValues → InternedIds
-ids_of interned = record { funcs = interned.functions.entries; conts = interned.conts.entries }
 
 abbrev pub tables_by : InternedIds → AskedPairs → StoreTables
 tables_by ids asked = record { ids = ids; kept_pairs = pairs_of asked }
@@ -42,10 +40,6 @@ store_view id config tables v tries =
 -- the store with another configuration
 abbrev pub configured : {D : Type 0} → HeapConfig → StoreView D → StoreView D
 configured config s = record s { first = config.first_pages; max_scoped = config.max_scoped; max_owned = config.max_owned; alloc_counter = option_map non_zero_u32_get config.alloc_counter }
-
--- how many slots each frame has
-abbrev pub slot_counts : List (List SlotEntry) → List ℕ
-slot_counts frames = map length frames
 
 -- No collection is under way, the store holds some table with some account, its types carry its id, and its open
 -- frames have so many slots each.

@@ -6,8 +6,8 @@ use Rattle.gc_owner.specs.RootColumns.{AreFrames}
 use Rattle.gc_owner.specs.Owners.{OwnerView, OwnerValue, Kind, Trims, IsUnderWay}
 use Rattle.gc_model.specs.Stores.{StoreView}
 use Rattle.gc_policy.specs.Shown.{shown}
-use Rattle.gc_store.specs.declared.engine.StoreId.{StoreId}
-use Rattle.gc_store.specs.declared.config.HeapConfig.{HeapConfig}
+use Rattle.gc_values.specs.declared.engine.StoreId.{StoreId}
+use Rattle.gc_values.specs.declared.config.HeapConfig.{HeapConfig}
 use Rattle.gc_store.specs.Stores.{StoreTables, store_view, IsSound}
 
 -- Such a store: its owner, what would be seen of it in its place, and whether its collection was begun.

@@ -1,8 +1,7 @@
 -- The values that go in and out of a store.
-use Rattle.std.specs.Prelude.{◌≡◌, ℕ, ℤ, Bool, true, false, List, [], ◌∷◌, Option, Some, None, Result, Ok, Err, length, slice_get}
+use Rattle.std.specs.Prelude.{◌≡◌, ℕ, ℤ, Bool, true, false, List, [], ◌∷◌, Some, None, Result, Ok, Err, length, slice_get}
 use Rattle.std.specs.Int.{w32, w64}
 use Rattle.gc_types.specs.declared.value.FieldType.{FieldType}
-use Rattle.gc_types.specs.declared.value.Func.{Func}
 use Rattle.gc_types.specs.declared.value.StorageType.{StorageType}
 use Rattle.gc_types.specs.declared.kind.Layouts.{Layouts}
 use Rattle.gc_owner.specs.declared.entry.GcClass.{GcClass}
@@ -15,13 +14,13 @@ use Rattle.gc_model.specs.Live.{roots_full}
 use Rattle.gc_model.specs.Reads.{makes_root, after_read}
 use Rattle.gc_model.specs.Stores.{StoreView}
 use Rattle.gc_model.specs.Holds.{HoldsTable}
-use Rattle.gc_store.specs.declared.root.GcRootIndex.{GcRootIndex}
-use Rattle.gc_store.specs.declared.root.RawValue.{RawValue}
-use Rattle.gc_store.specs.declared.root.RawValue.TheVariants as raw
-use Rattle.gc_store.specs.declared.root.RootFault.{RootFault}
-use Rattle.gc_store.specs.declared.root.RootFault.TheVariants as fault
-use Rattle.gc_store.specs.declared.write.WriteFault.{WriteFault}
-use Rattle.gc_store.specs.declared.write.WriteFault.TheVariants as write_fault
+use Rattle.gc_values.specs.declared.root.GcRootIndex.{GcRootIndex}
+use Rattle.gc_values.specs.declared.root.RawValue.{RawValue}
+use Rattle.gc_values.specs.declared.root.RawValue.TheVariants as raw
+use Rattle.gc_values.specs.declared.root.RootFault.{RootFault}
+use Rattle.gc_values.specs.declared.root.RootFault.TheVariants as fault
+use Rattle.gc_values.specs.declared.faults.WriteFault.{WriteFault}
+use Rattle.gc_values.specs.declared.faults.WriteFault.TheVariants as write_fault
 use Rattle.gc_policy.specs.Accounts.{Account, HoldsAccount}
 use Rattle.gc_store.specs.Roots.{NamesReference, HasValue, handle_of}
 
@@ -47,46 +46,6 @@ RawStands s t (raw.Ref class (Some handle)) v = RootStands s t class handle v
 pub record AllStand {D : Type 0} (s : StoreView D) (t : Table D) (raws : List RawValue) (values : List Value) : Type 0 where
   pub same_count : length raws ≡ length values
   pub each : (i : ℕ) (r : RawValue) (v : Value) → slice_get raws i ≡ Some r → slice_get values i ≡ Some v → RawStands s t r v
-
--- the function values among values that are given, in order
-abbrev pub raw_functions : List RawValue → List (Option Func)
-raw_functions [] = []
-raw_functions (raw.I32 n ∷ raws) = raw_functions raws
-raw_functions (raw.I64 n ∷ raws) = raw_functions raws
-raw_functions (raw.F32 n ∷ raws) = raw_functions raws
-raw_functions (raw.F64 n ∷ raws) = raw_functions raws
-raw_functions (raw.V128 n ∷ raws) = raw_functions raws
-raw_functions (raw.Func f ∷ raws) = f ∷ raw_functions raws
-raw_functions (raw.Cont c ∷ raws) = raw_functions raws
-raw_functions (raw.Ref class handle ∷ raws) = raw_functions raws
-
--- the continuations that are present among values that are given, in order
-abbrev pub raw_conts : List RawValue → List ℕ
-raw_conts [] = []
-raw_conts (raw.I32 n ∷ raws) = raw_conts raws
-raw_conts (raw.I64 n ∷ raws) = raw_conts raws
-raw_conts (raw.F32 n ∷ raws) = raw_conts raws
-raw_conts (raw.F64 n ∷ raws) = raw_conts raws
-raw_conts (raw.V128 n ∷ raws) = raw_conts raws
-raw_conts (raw.Func f ∷ raws) = raw_conts raws
-raw_conts (raw.Cont None ∷ raws) = raw_conts raws
-raw_conts (raw.Cont (Some c) ∷ raws) = c ∷ raw_conts raws
-raw_conts (raw.Ref class handle ∷ raws) = raw_conts raws
-
--- both
-abbrev pub raw_side_values : List RawValue → SideValues
-raw_side_values raws = record { funcs = raw_functions raws; conts = raw_conts raws }
-
--- the handle that a value is, where it is one
-abbrev pub raw_handle : RawValue → Option GcRootIndex
-raw_handle (raw.I32 n) = None
-raw_handle (raw.I64 n) = None
-raw_handle (raw.F32 n) = None
-raw_handle (raw.F64 n) = None
-raw_handle (raw.V128 n) = None
-raw_handle (raw.Func f) = None
-raw_handle (raw.Cont c) = None
-raw_handle (raw.Ref class handle) = handle
 
 -- the handle is live in a table that the store holds
 pub record IsLive (D : Type 0) (layouts : Layouts) (s : StoreView D) (handle : GcRootIndex) : Type 0 where

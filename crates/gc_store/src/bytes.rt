@@ -8,11 +8,11 @@ ghost use Rattle.gc_model.specs.Table.{Table};
 ghost use Rattle.gc_model.specs.Holds.{HoldsTable};
 ghost use Rattle.gc_store.specs.Bytes.{CanCopyBytes, CopiesBytes};
 
-use crate::root::GcRootIndex;
-use crate::slot::slot_in;
 use crate::store::Store;
 use gc_heap::GcHeap;
 use gc_refs::VMGcRef;
+use gc_values::root::GcRootIndex;
+use gc_values::slot::slot_in;
 
 /// Copies as many bytes as there is room for from an offset of a held object.
 fn copy_data<H: GcHeap>(heap: &H, gc_ref: &VMGcRef, offset: u32, dst: &mut [u8])

@@ -6,45 +6,16 @@ ghost use Rattle.gc_model.specs.Fits.{matches, function_fits, cont_fits, fits_ty
 ghost use Rattle.gc_model.specs.Holds.{HoldsTable};
 ghost use Rattle.gc_model.specs.Table.{Table};
 ghost use Rattle.gc_model.specs.Values.{Value};
-ghost use Rattle.gc_store.specs.OwnTypes.{own_type, own_fits};
+ghost use Rattle.gc_values.specs.OwnTypes.{own_type, own_fits};
 ghost use Rattle.gc_store.specs.Values.{RawStands};
 
-use crate::root::{GcRootIndex, RawValue, RootedObject};
 use crate::store::Store;
 use gc_heap::GcHeap;
 use gc_model::classes::null_fits;
 use gc_owner::GcClass;
 use gc_types::{Func, HeapTopType, HeapType, RefType, ValType};
-
-/// The type of an object by itself, as a reference of class any.
-fn own_any_type(object: &RootedObject) -> Option<HeapType>
-    ensures { result ≡ own_type GcClass.Any object.now }
-{
-    match object {
-        RootedObject::I31(_) => Some(HeapType::I31),
-        RootedObject::Struct(ty) => Some(HeapType::ConcreteStruct(*ty)),
-        RootedObject::Array(ty, _) => Some(HeapType::ConcreteArray(*ty)),
-        RootedObject::Host => None,
-        RootedObject::Exn(..) => None,
-    }
-}
-
-/// The type of an object by itself, as a reference of that class; None where it fits no type of the class.
-fn own_type(class: GcClass, object: &RootedObject) -> Option<HeapType>
-    ensures { result ≡ own_type class object.now }
-{
-    match class {
-        GcClass::Any => own_any_type(object),
-        GcClass::Extern => match object {
-            RootedObject::Exn(..) => None,
-            _ => Some(HeapType::Extern),
-        },
-        GcClass::Exn => match object {
-            RootedObject::Exn(ty, _) => Some(HeapType::ConcreteExn(*ty)),
-            _ => None,
-        },
-    }
-}
+use gc_values::own_types::own_type;
+use gc_values::root::{GcRootIndex, RawValue, RootedObject};
 
 /// Whether a heap type matches that of a reference type.
 fn matches<H: GcHeap, D: Drop>(store: &Store<H, D>, own: HeapType, ty: &RefType) -> bool

@@ -9,10 +9,10 @@ ghost use Rattle.gc_store.specs.Slots.{SetsSlot, ReadsSlot, PopsFrame};
 ghost use Rattle.gc_store.specs.Stores.{IsSameStore, scoped_places};
 
 use crate::globals::SlotFault;
-use crate::root::GcRootIndex;
 use crate::store::Store;
 use gc_heap::GcHeap;
 use gc_owner::{GcClass, SlotEntry};
+use gc_values::root::GcRootIndex;
 use std::alloc::AllocError;
 
 impl<H: GcHeap, D: Drop> Store<H, D> {

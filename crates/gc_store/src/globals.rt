@@ -10,10 +10,10 @@ ghost use Rattle.gc_policy.specs.Accounts.{Account, HoldsAccount};
 ghost use Rattle.gc_store.specs.Slots.{told_of_slot, FindsWord, SetsSlot, ReadsSlot};
 ghost use Rattle.gc_store.specs.Stores.{IsSameStore, scoped_places};
 
-use crate::root::{GcRootIndex, RootFault};
 use crate::store::Store;
 use gc_heap::GcHeap;
 use gc_owner::{GcClass, SlotEntry};
+use gc_values::root::{GcRootIndex, RootFault};
 use thiserror::Error;
 
 /// How many globals a store has.

@@ -10,9 +10,10 @@ ghost use Rattle.gc_store.specs.Expansion.{GrowsStore, CollectsFor, unused_bytes
 ghost use Rattle.gc_policy.specs.Policy.{policy_state};
 ghost use Rattle.gc_store.specs.Stores.{IsSameStore};
 
-use crate::store::{GcHeapOutOfMemory, Store};
+use crate::store::Store;
 use gc_heap::GcHeap;
 use gc_owner::{PagesFault, ResourceLimiter};
+use gc_values::faults::GcHeapOutOfMemory;
 use std::alloc::AllocError;
 use thiserror::Error;
 

@@ -20,16 +20,17 @@ ghost use Rattle.gc_store.specs.HostSteps.{AllocatesHost, MakesHost, TellsHostId
 ghost use Rattle.gc_store.specs.Roots.{NamesReference, NamesNothing, is_of_store};
 ghost use Rattle.gc_store.specs.Stores.{IsSameStore, scoped_places};
 
-use crate::make::collect_if_due;
 use crate::place::{count_allocation, scoped_handle};
-use crate::root::{GcRootIndex, RootFault};
-use crate::store::{GcHeapOutOfMemory, Store};
+use crate::store::Store;
 use gc_heap::GcHeap;
 use gc_heap::ref_kinds::RefKinds;
 use gc_memory::offsets::external_size;
 use gc_owner::{HeapOwner, HostFault, PagesFault, ResourceLimiter};
 use gc_refs::VMGcRef;
 use gc_tables::ExternRefHostDataId;
+use gc_values::faults::GcHeapOutOfMemory;
+use gc_values::make::collect_if_due;
+use gc_values::root::{GcRootIndex, RootFault};
 use thiserror::Error;
 
 /// Why a host object is not placed.
@@ -73,10 +74,7 @@ impl From<RootFault> for HostDataFault {
 fn without_room<D>(value: D, bytes_needed: u64) -> PlaceHostFault<D>
     ensures { result ≡ PlaceHostFault.HeapOutOfMemory (record { inner = value; bytes_needed = bytes_needed }) }
 {
-    PlaceHostFault::HeapOutOfMemory(GcHeapOutOfMemory {
-        inner: value,
-        bytes_needed,
-    })
+    PlaceHostFault::HeapOutOfMemory(GcHeapOutOfMemory::new(value, bytes_needed))
 }
 
 /// Makes a host object and its scoped root, of which it answers the index.

@@ -6,18 +6,18 @@ ghost use Rattle.gc_model.specs.Table.{Table};
 ghost use Rattle.gc_model.specs.Holds.{Holds, Placing, IsWord};
 ghost use Rattle.gc_policy.specs.Accounts.{Account, IsAccount, HoldsAccount};
 ghost use Rattle.gc_store.specs.Roots.{IsRootWord, is_of_store};
-ghost use Rattle.gc_store.specs.Words.{owned_id, AreRising};
-ghost use Rattle.gc_store.specs.declared.root.RootSlot.TheVariants as RootSlot;
+ghost use Rattle.gc_values.specs.Words.{owned_id, AreRising};
+ghost use Rattle.gc_values.specs.declared.root.RootSlot.TheVariants as RootSlot;
 ghost use Rattle.gc_store.specs.OwnedRoots.{MakesOwned, AddsHandle, DropsHandle, ReleasesHandle};
 ghost use Rattle.gc_store.specs.OwnedWords.{HoldsThere, IsTrimmed, AddsOwned, OwnsWord, owned_is_full, FindsHeld, FindsHeldNumber, GivesMore};
 ghost use Rattle.gc_store.specs.Stores.{IsSameStore};
 
-use crate::engine::StoreId;
-use crate::root::{GcRootIndex, RootFault, RootSlot};
 use crate::store::Store;
-use crate::word::{find_owned, owned_id};
 use gc_heap::GcHeap;
 use gc_owner::OwnedEntry;
+use gc_values::engine::StoreId;
+use gc_values::root::{GcRootIndex, RootFault, RootSlot};
+use gc_values::word::{find_owned, owned_id};
 use std::alloc::AllocError;
 
 /// How many owned roots there are at first before one that is made trims them, and no fewer later.

@@ -8,10 +8,10 @@ ghost use Rattle.gc_policy.specs.Accounts.{Account, HoldsAccount};
 ghost use Rattle.gc_store.specs.Thrown.{NamesException, SetsPending, AnswersPending, TellsTag};
 ghost use Rattle.gc_store.specs.Stores.{IsSameStore, scoped_places};
 
-use crate::root::{GcRootIndex, RootFault, RootedObject};
 use crate::store::Store;
 use gc_heap::GcHeap;
 use gc_types::Tag;
+use gc_values::root::{GcRootIndex, RootFault, RootedObject};
 
 impl<H: GcHeap, D: Drop> Store<H, D> {
     /// Makes an exception the pending one, in place of one that was. `WrongStore` where the handle is another store's,

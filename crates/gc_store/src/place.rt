@@ -1,6 +1,6 @@
 //! Making objects of the table.
 
-ghost use Rattle.std.specs.Prelude.{◌≡◌, ◌≤◌, ◌+◌, ◌-◌, ◌<◌, ◌^◌, ℕ, min, length, slice_index_or};
+ghost use Rattle.std.specs.Prelude.{◌≡◌, ◌≤◌, ◌+◌, ◌-◌, ◌<◌, ◌^◌, min, length, slice_index_or};
 ghost use Rattle.gc_owner.specs.declared.entry.RootEntry as Root;
 ghost use Rattle.std.specs.Option.{option_map};
 ghost use Rattle.std.specs.Int.NonZero.{non_zero_u32_get};
@@ -9,50 +9,21 @@ ghost use Rattle.gc_model.specs.Values.{Object};
 ghost use Rattle.gc_policy.specs.Accounts.{Account, HoldsAccount, is_due};
 ghost use Rattle.gc_policy.specs.Policy.{policy_state};
 ghost use Rattle.gc_store.specs.Places.{Places};
-ghost use Rattle.gc_store.specs.Making.{described_by, IsSizeOf, TellsSize};
 ghost use Rattle.gc_store.specs.Requests.{CanPlaceIn, IsObjectOf};
 ghost use Rattle.gc_store.specs.Stores.{is_full, IsSameStore, scoped_places};
 
-use crate::engine::StoreId;
-use crate::fill::fill;
-use crate::interned::{find_room, given_values, intern_all};
-use crate::make::make_object;
-use crate::request::{Contents, Place};
-use crate::root::{GcRootIndex, RootSlot};
-use crate::store::{PlaceFault, Store};
+use crate::store::Store;
 use gc_heap::GcHeap;
-use gc_owner::{Description, ResourceLimiter, RootEntry};
+use gc_owner::{ResourceLimiter, RootEntry};
 use gc_refs::VMGcRef;
-use gc_types::Types;
+use gc_values::engine::StoreId;
+use gc_values::faults::PlaceFault;
+use gc_values::fill::fill;
+use gc_values::interned::{find_room, given_values, intern_all};
+use gc_values::make::{description_of, make_object, object_size};
+use gc_values::request::{Contents, Place};
+use gc_values::root::{GcRootIndex, RootSlot};
 use std::num::NonZeroU32;
-
-/// What an object of that request is made by.
-fn description_of(request: &Place) -> Description
-    ensures { result ≡ described_by request.now }
-{
-    match *request {
-        Place::Struct(ty) => Description::Object(ty),
-        Place::Exn(ty, _) => Description::Object(ty),
-        Place::Array(ty, length) => Description::Array(ty, length),
-    }
-}
-
-/// The bytes of an object of a declared type; None exactly where no heap of the kind can hold it.
-#[inline(always)]
-fn object_size<H: GcHeap>(types: &Types, request: &Place) -> Option<u32>
-    requires { (size : ℕ) × IsSizeOf H.KIND types.now.declarations request.now size }
-    ensures { (size : ℕ) → IsSizeOf H.KIND types.now.declarations request.now size → TellsSize H.KIND size result }
-{
-    let size = match *request {
-        Place::Struct(ty) => types.struct_layout(H::KIND, ty).unwrap().size,
-        Place::Exn(ty, _) => types.struct_layout(H::KIND, ty).unwrap().size,
-        Place::Array(ty, length) => types.array_layout(H::KIND, ty).unwrap().size(length)?,
-    };
-    if H::is_too_large(size) {
-        return None;
-    }
-    Some(size)
-}
 
 /// The handle of a scoped root.
 pub(crate) fn scoped_handle(store_id: StoreId, generation: u64, index: u32) -> GcRootIndex

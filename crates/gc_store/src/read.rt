@@ -1,20 +1,12 @@
 //! What a handle names, and what lies in it.
 
-ghost use Rattle.std.specs.Prelude.{◌≡◌, ◌↔◌, ◌≤◌, ◌⊎◌, ◌<◌, ◌%◌, true, false, Some, None, Ok, Err, IfOk, OnOk, OnErr};
-ghost use Rattle.std.specs.FinMap as finite;
-ghost use Rattle.gc_types.specs.declared.kind.VMGcKind.{VMGcKind};
-ghost use Rattle.gc_types.specs.declared.kind.VMGcKind.TheVariants.{ArrayRef, ExnRef};
-ghost use Rattle.gc_refs.specs.Header.{IsOfKind};
-ghost use Rattle.gc_view.specs.Heaps.{HeapObject};
+ghost use Rattle.std.specs.Prelude.{◌≡◌, ◌↔◌, ◌≤◌, ◌⊎◌, ◌<◌, true, false, Some, None, Ok, Err, IfOk, OnOk, OnErr};
 ghost use Rattle.gc_owner.specs.declared.entry.GcClass.{GcClass};
-ghost use Rattle.gc_heap.specs.Objects.{IsHeaderOf, array_length};
-ghost use Rattle.gc_heap.specs.Content.{IsHeld};
 ghost use Rattle.gc_model.specs.Table.{Table, push};
 ghost use Rattle.gc_model.specs.Reads.{same_reference, after_read};
 ghost use Rattle.gc_model.specs.Values.{Reference, Value, small, reference};
 ghost use Rattle.gc_model.specs.Holds.{HoldsTable, Holds, Placing, IsWord};
 ghost use Rattle.gc_policy.specs.Accounts.{Account, IsAccount, HoldsAccount};
-ghost use Rattle.gc_store.specs.Described.{TellsHeld, tag_of};
 ghost use Rattle.gc_store.specs.Roots.{word_of, IsRootWord, IsReference, NamesReference, NamesNothing, TellsReference, TellsWord, is_of_store, HasValue, CanRead};
 ghost use Rattle.gc_store.specs.Roots.{FindsRoot};
 ghost use Rattle.gc_store.specs.Handles.{PushesRoot};
@@ -24,69 +16,16 @@ ghost use Rattle.gc_store.specs.Stores.{IsSameStore, scoped_places};
 ghost use Rattle.gc_store.specs.Staying.{OnlyAdds};
 ghost use Rattle.gc_store.specs.OwnedWords.{HoldsThere};
 
-use crate::interned::{cont_at, function_at};
 use crate::place::scoped_handle;
-use crate::root::{GcRootIndex, RawValue, RootFault, RootedObject};
-use crate::slot::slot_in;
 use crate::store::Store;
-use crate::stored::{Found, read_slot};
-use crate::word::word_at;
 use gc_heap::GcHeap;
-use gc_heap::access::read_u32;
-use gc_refs::{I31, VMArrayRef, VMGcHeader, VMGcRef};
-use gc_types::{Tag, VMGcKind};
-
-/// The kind of the object behind a header.
-fn kind_of(header: &VMGcHeader) -> VMGcKind
-    requires { (kind : VMGcKind) × IsOfKind kind header.now.kind_word }
-    ensures { IsOfKind result header.now.kind_word }
-{
-    header.kind().unwrap()
-}
-
-/// The length of a held array.
-fn length_of<H: GcHeap>(heap: &H, gc_ref: &VMGcRef) -> u32
-    requires sound { H.sound heap.now }
-    requires held { (o : HeapObject) × ((finite.get (H.seen heap.now).content gc_ref.now ≡ Some o) × (o.kind ≡ ArrayRef)) }
-    ensures { (o : HeapObject) → finite.get (H.seen heap.now).content gc_ref.now ≡ Some o → result ≡ array_length o }
-{
-    let array = VMArrayRef::new_unchecked(gc_ref.unchecked_copy());
-    heap.array_len(&array).unwrap()
-}
-
-/// The tag of a held exception, whose two words stand in front of its fields.
-fn tag_of<H: GcHeap>(heap: &H, gc_ref: &VMGcRef) -> Tag
-    requires sound { H.sound heap.now }
-    requires held { (o : HeapObject) × ((finite.get (H.seen heap.now).content gc_ref.now ≡ Some o) × (o.kind ≡ ExnRef)) }
-    ensures { (o : HeapObject) → finite.get (H.seen heap.now).content gc_ref.now ≡ Some o → result ≡ tag_of o }
-{
-    let base = H::KIND.struct_base();
-    Tag {
-        instance: read_u32(heap, gc_ref, base),
-        index: read_u32(heap, gc_ref, base + 4),
-    }
-}
-
-/// What a held object is.
-#[inline(always)]
-fn describe_held<H: GcHeap>(heap: &H, gc_ref: &VMGcRef) -> RootedObject
-    requires sound { H.sound heap.now }
-    requires held { IsHeld (H.seen heap.now) gc_ref.now }
-    ensures { TellsHeld (H.seen heap.now) gc_ref.now result }
-{
-    let Ok(header) = heap.header(gc_ref) else {
-        unreachable!()
-    };
-    let ty = header.type_index();
-    match kind_of(&header) {
-        VMGcKind::StructRef => RootedObject::Struct(ty),
-        VMGcKind::ArrayRef => RootedObject::Array(ty, length_of(heap, gc_ref)),
-        VMGcKind::ExnRef => RootedObject::Exn(ty, tag_of(heap, gc_ref)),
-        VMGcKind::ExternRef => RootedObject::Host,
-        VMGcKind::AnyRef => unreachable!(),
-        VMGcKind::EqRef => unreachable!(),
-    }
-}
+use gc_refs::{I31, VMGcRef};
+use gc_values::describe::describe_held;
+use gc_values::interned::{cont_at, function_at};
+use gc_values::root::{GcRootIndex, RawValue, RootFault, RootedObject};
+use gc_values::slot::slot_in;
+use gc_values::stored::{Found, read_slot};
+use gc_values::word::word_at;
 
 impl<H: GcHeap, D: Drop> Store<H, D> {
     /// The word that the handle's root has.

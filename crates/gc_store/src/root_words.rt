@@ -9,15 +9,16 @@ ghost use Rattle.gc_model.specs.Holds.{Holds, Placing};
 ghost use Rattle.gc_policy.specs.Accounts.{Account, IsAccount};
 ghost use Rattle.gc_store.specs.RootWords.{root_words, slot_words, slot_roots, owned_root, scoped_root, handle_roots, RootsWord};
 ghost use Rattle.gc_store.specs.Staying.{OnlyAdds};
-ghost use Rattle.gc_store.specs.Stores.{IsSameStore, slot_counts, scoped_places};
+ghost use Rattle.gc_store.specs.Stores.{IsSameStore, scoped_places};
+ghost use Rattle.gc_values.specs.SlotCounts.{slot_counts};
 ghost use Rattle.gc_store.specs.declared.root_words.RootName.TheVariants as RootName;
 
 use crate::globals::GLOBAL_COUNT;
-use crate::root::{GcRootIndex, RootFault};
 use crate::store::Store;
-use crate::word::owned_id;
 use gc_heap::GcHeap;
 use gc_owner::{OwnedEntry, RootEntry, SlotEntry};
+use gc_values::root::{GcRootIndex, RootFault};
+use gc_values::word::owned_id;
 
 /// Which root of a store a root word is.
 #[derive(Clone, Copy, Debug, PartialEq, Eq)]

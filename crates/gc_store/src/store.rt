@@ -9,93 +9,16 @@ ghost use Rattle.gc_model.specs.Stores.{empty_store};
 ghost use Rattle.gc_store.specs.Collectings.{IsSpent, spent_from};
 ghost use Rattle.gc_store.specs.Stores.{HoldsStart, ShowsNothing, configured};
 
-use crate::config::HeapConfig;
-use crate::engine::StoreId;
-use crate::interned::InternedValues;
 use crate::owned::FIRST_MARK;
-use crate::subtypes::AskedPairs;
 use gc_heap::GcHeap;
 use gc_owner::HeapOwner;
 use gc_types::Types;
+use gc_values::config::HeapConfig;
+use gc_values::engine::StoreId;
+use gc_values::interned::InternedValues;
+use gc_values::subtypes::AskedPairs;
 use std::alloc::{AllocError, Global};
-use std::fmt;
 use std::marker::Model;
-use thiserror::Error;
-
-/// The heap has no room for an allocation, and got no more. It has what was to be stored.
-#[derive(Drop)]
-pub struct GcHeapOutOfMemory<T> {
-    pub(crate) inner: T,
-    pub(crate) bytes_needed: u64,
-}
-
-impl<T> GcHeapOutOfMemory<T> {
-    /// What was to be stored.
-    pub fn into_inner(self) -> T
-        ensures { result ≡ self.inner }
-    {
-        self.inner
-    }
-
-    /// What was to be stored, and the same fault without it.
-    pub fn take_inner(self) -> (T, GcHeapOutOfMemory<()>)
-        ensures inner { result.0 ≡ self.inner }
-        ensures fault { result.1 ≡ record { inner = tt; bytes_needed = self.bytes_needed } }
-    {
-        let fault = GcHeapOutOfMemory {
-            inner: (),
-            bytes_needed: self.bytes_needed,
-        };
-        (self.inner, fault)
-    }
-
-    /// The bytes that the heap would have to grow by.
-    pub fn bytes_needed(&self) -> u64
-        ensures { result ≡ self.now.bytes_needed }
-    {
-        self.bytes_needed
-    }
-}
-
-impl<T> fmt::Display for GcHeapOutOfMemory<T> {
-    fn fmt<W: fmt::Write>(&self, f: &mut fmt::Formatter<W>) -> fmt::Result {
-        write!(
-            f,
-            "GC heap out of memory: no capacity for allocation of {} bytes",
-            self.bytes_needed
-        )
-    }
-}
-
-impl<T> fmt::Debug for GcHeapOutOfMemory<T> {
-    fn fmt<W: fmt::Write>(&self, f: &mut fmt::Formatter<W>) -> fmt::Result {
-        fmt::Display::fmt(self, f)
-    }
-}
-
-/// Why an object is not placed.
-#[derive(Debug, Drop, Error)]
-pub enum PlaceFault {
-    /// No ids are left for all function values of the object that are new to the store.
-    #[error("no ids are left for function values")]
-    FuncTableFull,
-    /// No ids are left for all continuations of the object that are new to the store.
-    #[error("no ids are left for continuations")]
-    ContTableFull,
-    /// No heap of the kind can hold an object of that size.
-    #[error("no heap can hold an object of that size")]
-    TooLarge,
-    /// No further root may be made.
-    #[error("no further root may be made")]
-    RootsFull,
-    /// The heap has no room, and it was refused more.
-    #[error("{0}")]
-    HeapOutOfMemory(GcHeapOutOfMemory<()>),
-    /// Out of memory. The table is as it was; a collection may have run, and the heap may have got its
-    /// first pages and a growth.
-    #[error("out of memory")]
-    Memory,
-}
 
 /// A heap with its types and its roots. `D` is the type of the embedder's host values.
 #[derive(Drop)]

@@ -9,14 +9,14 @@ ghost use Rattle.gc_owner.specs.Counting.{ticks_of};
 ghost use Rattle.gc_owner.specs.Going.{left_of};
 ghost use Rattle.gc_store.specs.Collectings.{IsOpen, IsClosed, IsRunning, IsAsked, DoesIncrement, GivesStore, CountsCollection};
 
-use crate::config::HeapConfig;
-use crate::engine::StoreId;
-use crate::interned::InternedValues;
 use crate::store::Store;
-use crate::subtypes::AskedPairs;
 use gc_heap::{GcHeap, GcProgress};
 use gc_owner::HeapOwner;
 use gc_steps::Steps;
+use gc_values::config::HeapConfig;
+use gc_values::engine::StoreId;
+use gc_values::interned::InternedValues;
+use gc_values::subtypes::AskedPairs;
 use std::marker::Model;
 use std::sync::ledger::Ledger;
 

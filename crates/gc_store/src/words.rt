@@ -13,9 +13,9 @@ ghost use Rattle.gc_store.specs.Reading.{IsReferenceWord};
 ghost use Rattle.gc_store.specs.Roots.{IsRootWord, is_of_store, NamesReference, NamesNothing, TellsWord};
 ghost use Rattle.gc_store.specs.Stores.{IsSameStore, scoped_places};
 
-use crate::root::{GcRootIndex, RootFault};
 use crate::store::Store;
 use gc_heap::GcHeap;
+use gc_values::root::{GcRootIndex, RootFault};
 
 impl<H: GcHeap, D: Drop> Store<H, D> {
     /// The word of the handle's reference, to be kept until the heap collects next: `push_word` and
@@ -53,8 +53,9 @@ impl<H: GcHeap, D: Drop> Store<H, D> {
         self.push_reference(word)
     }
 
-    /// Makes an owned root for the reference with that word, and no scoped one; None exactly for 0.
-    pub(crate) fn own_reference(&mut self, word: u32) -> Result<Option<GcRootIndex>, RootFault>
+    /// Makes an owned root for the reference with that word, and no scoped one; None exactly for 0. `RootsFull` where no
+    /// further owned root may be made. The word has to be one that `push_word` takes.
+    pub fn own_reference(&mut self, word: u32) -> Result<Option<GcRootIndex>, RootFault>
         requires { IsReferenceWord D H.KIND self.old word }
         ensures owns { (t : Table D) (place : Placing) (a : Account) (r : Reference) → HoldsThere H.KIND self.old t place a → IsWord place r word
             → OwnsReference H.KIND t a r result self.new }

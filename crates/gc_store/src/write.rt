@@ -3,32 +3,19 @@
 ghost use Rattle.std.specs.Prelude.{◌≡◌, ◌≤◌, [], ◌∷◌, IsOk, OnErr};
 ghost use Rattle.gc_model.specs.Table.{Table};
 ghost use Rattle.gc_policy.specs.Accounts.{Account, HoldsAccount};
-ghost use Rattle.gc_store.specs.Values.{CanWrite, WritesValue, raw_side_values};
+ghost use Rattle.gc_store.specs.Values.{CanWrite, WritesValue};
+ghost use Rattle.gc_values.specs.RawValues.{raw_side_values};
 ghost use Rattle.gc_model.specs.SideValues.{no_side_values};
 ghost use Rattle.gc_store.specs.Stores.{IsSameStore};
 
-use crate::interned::intern_given;
-use crate::root::{GcRootIndex, RawValue};
-use crate::slot::slot_in;
 use crate::store::Store;
-use crate::stored::{stored_value, write_slot};
 use gc_heap::GcHeap;
 use gc_refs::VMGcRef;
-use thiserror::Error;
-
-/// Why a value is not written.
-#[derive(Clone, Copy, Debug, PartialEq, Eq, Error)]
-pub enum WriteFault {
-    /// The value is a function value that is new to the store, and no id is left for it.
-    #[error("the function table is full")]
-    FuncTableFull,
-    /// The value is a continuation that is new to the store, and no id is left for it.
-    #[error("the continuation table is full")]
-    ContTableFull,
-    /// Out of memory. The store is as it was.
-    #[error("out of memory")]
-    Memory,
-}
+use gc_values::faults::WriteFault;
+use gc_values::interned::intern_given;
+use gc_values::root::{GcRootIndex, RawValue};
+use gc_values::slot::slot_in;
+use gc_values::stored::{stored_value, write_slot};
 
 impl<H: GcHeap, D: Drop> Store<H, D> {
     /// Writes a value at that index into the object that the handle names: into a field of a struct or an exception, or

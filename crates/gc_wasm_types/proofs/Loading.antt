@@ -11,9 +11,9 @@ use Rattle.gc_model.specs.Table.{Table}
 use Rattle.gc_model.specs.Values.{Reference}
 use Rattle.gc_policy.specs.Accounts.{Account}
 use Rattle.gc_policy.proofs.AccountLemmas.{own_account}
-use Rattle.gc_store.specs.declared.root.GcRootIndex.{GcRootIndex}
-use Rattle.gc_store.specs.declared.owned_rooted.OwnedRooted.{OwnedRooted}
-use Rattle.gc_store.specs.declared.root.RootFault.{RootFault}
+use Rattle.gc_values.specs.declared.root.GcRootIndex.{GcRootIndex}
+use Rattle.gc_rooted.specs.declared.owned_rooted.OwnedRooted.{OwnedRooted}
+use Rattle.gc_values.specs.declared.root.RootFault.{RootFault}
 use Rattle.gc_store.specs.OwnedWords.{HoldsThere}
 use Rattle.gc_store.specs.RawWords.{IsWordOfKind, IsRawWord, OwnsReference}
 use Rattle.gc_store.specs.Reading.{IsReferenceWord}

@@ -8,9 +8,9 @@ use Rattle.gc_model.specs.Holds.{Placing, Holds, HoldsTable, IsWord}
 use Rattle.gc_model.specs.Stores.{StoreView}
 use Rattle.gc_model.specs.Table.{Table}
 use Rattle.gc_model.specs.Values.{Reference, null, small}
-use Rattle.gc_store.specs.declared.root.GcRootIndex.{GcRootIndex}
-use Rattle.gc_store.specs.declared.root.RootFault.{RootFault}
-use Rattle.gc_store.specs.declared.root.RootFault.TheVariants as fault
+use Rattle.gc_values.specs.declared.root.GcRootIndex.{GcRootIndex}
+use Rattle.gc_values.specs.declared.root.RootFault.{RootFault}
+use Rattle.gc_values.specs.declared.root.RootFault.TheVariants as fault
 use Rattle.gc_store.specs.Roots.{is_of_store, NamesReference, NamesNothing, TellsWord}
 use Rattle.gc_store.specs.Kinds.{NamesKind}
 use Rattle.gc_store.specs.RawWords.{IsRawWord}

@@ -10,7 +10,8 @@ use crate::words::{load_owned, load_scoped, store_root, write_word};
 use gc_heap::GcHeap;
 use gc_objects::AccessFault;
 use gc_refs::ValRaw;
-use gc_store::{GcRef, GcRootIndex, OwnedRooted, RootFault, Rooted, RootedGcRef, Store};
+use gc_rooted::{GcRef, OwnedRooted, Rooted, RootedGcRef};
+use gc_store::{GcRootIndex, RootFault, Store};
 use gc_types::{HeapType, RefType, ValType};
 
 /// A handle of a root, which goes in and out of raw words: by itself, and as an `Option` of it.
@@ -20,7 +21,7 @@ pub trait WasmHandle {
     ghost use Rattle.gc_model.specs.Table.{Table};
     ghost use Rattle.gc_model.specs.Values.{Reference};
     ghost use Rattle.gc_policy.specs.Accounts.{Account};
-    ghost use Rattle.gc_store.specs.declared.root.GcRootIndex.{GcRootIndex};
+    ghost use Rattle.gc_values.specs.declared.root.GcRootIndex.{GcRootIndex};
     ghost use Rattle.gc_store.specs.OwnedWords.{HoldsThere};
     ghost use Rattle.gc_store.specs.RawWords.{IsRawWord};
     ghost use Rattle.gc_store.specs.Stores.{IsSameStore};

@@ -1,7 +1,7 @@
 //! The types of references that have values of their own.
 
 use gc_objects::{ArrayRef, ExternRef, StructRef};
-use gc_store::GcRef;
+use gc_rooted::GcRef;
 use gc_types::HeapType;
 
 /// A type of references whose handles go in and out of raw words.

@@ -17,7 +17,8 @@ ghost use Rattle.gc_wasm_types.specs.Values.{handle, references, raw_word, word_
 
 use gc_heap::GcHeap;
 use gc_refs::ValRaw;
-use gc_store::{GcRef, GcRootIndex, OwnedRooted, RootFault, Rooted, Store};
+use gc_rooted::{GcRef, OwnedRooted, Rooted};
+use gc_store::{GcRootIndex, RootFault, Store};
 
 /// Writes a word.
 pub(crate) fn write_word(into: &mut ValRaw, word: u32)

@@ -16,7 +16,7 @@ use Rattle.gc_model.specs.Values.{Reference, null, at}
 use Rattle.gc_model.proofs.Members.{get_contains}
 use Rattle.gc_policy.specs.Accounts.{Account, HoldsAccount}
 use Rattle.gc_policy.proofs.HeldSums.{sum_part}
-use Rattle.gc_store.specs.declared.root.GcRootIndex.{GcRootIndex}
+use Rattle.gc_values.specs.declared.root.GcRootIndex.{GcRootIndex}
 use Rattle.gc_store.specs.Roots.{owned_handle}
 use Rattle.gc_store.specs.Stores.{IsSameStore}
 use Rattle.gc_lists.specs.Answers.{HasNewRoot, Releases, owned_with}

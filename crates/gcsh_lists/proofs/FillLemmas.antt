@@ -12,7 +12,7 @@ use Rattle.gc_model.specs.Values.{Reference, at}
 use Rattle.gc_model.specs.Table.{Table, Owned}
 use Rattle.gc_model.specs.Stores.{StoreView}
 use Rattle.gc_policy.specs.Accounts.{Account, HoldsAccount}
-use Rattle.gc_store.specs.declared.root.GcRootIndex.{GcRootIndex}
+use Rattle.gc_values.specs.declared.root.GcRootIndex.{GcRootIndex}
 use Rattle.gc_store.specs.Roots.{is_of_store}
 use Rattle.gc_store.specs.Stores.{IsSameStore}
 use Rattle.gc_store.proofs.HandleWords.{owned-of_store}

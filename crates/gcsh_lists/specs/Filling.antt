@@ -10,7 +10,7 @@ use Rattle.gc_model.specs.Reach.{root_references}
 use Rattle.gc_model.specs.Table.{Table, Owned}
 use Rattle.gc_model.specs.Values.{Reference, at}
 use Rattle.gc_policy.specs.Accounts.{Account, HoldsAccount}
-use Rattle.gc_store.specs.declared.root.GcRootIndex.{GcRootIndex}
+use Rattle.gc_values.specs.declared.root.GcRootIndex.{GcRootIndex}
 use Rattle.gc_store.specs.Stores.{IsSameStore}
 use Rattle.gc_lists.specs.declared.fault.ListFault.{ListFault}
 use Rattle.gc_lists.specs.declared.fault.ListFault.TheVariants as fault

@@ -3,7 +3,8 @@
 use crate::fault::{Result, SessionFault, TableFault};
 use gc_heap::GcHeap;
 use gc_objects::{StructRef, StructRefPre, Val};
-use gc_store::{GcClass, ResourceLimiter, RootedGcRef, Store};
+use gc_rooted::RootedGcRef;
+use gc_store::{GcClass, ResourceLimiter, Store};
 use gc_types::{
     FieldType, Func, HeapType, Mutability, RefType, StorageType, TypeFault, VMSharedTypeIndex,
     ValType,

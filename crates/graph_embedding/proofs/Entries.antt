@@ -12,13 +12,13 @@ use Rattle.gc_model.specs.Holds.{HoldsTable, HoldsKept}
 use Rattle.gc_model.proofs.OwnedRoots.{owned_found}
 use Rattle.gc_policy.specs.Accounts.{Account, HoldsAccount}
 use Rattle.gc_policy.proofs.AccountLemmas.{some_account}
-use Rattle.gc_store.specs.declared.root.GcRootIndex.{GcRootIndex}
-use Rattle.gc_store.specs.declared.root.RootFault.{RootFault}
-use Rattle.gc_store.specs.declared.root.RootFault.TheVariants as fault
-use Rattle.gc_store.specs.declared.owned_rooted.OwnedRooted.{OwnedRooted}
+use Rattle.gc_values.specs.declared.root.GcRootIndex.{GcRootIndex}
+use Rattle.gc_values.specs.declared.root.RootFault.{RootFault}
+use Rattle.gc_values.specs.declared.root.RootFault.TheVariants as fault
+use Rattle.gc_rooted.specs.declared.owned_rooted.OwnedRooted.{OwnedRooted}
 use Rattle.gc_store.specs.OwnedRoots.{MakesOwned, MadeOwned}
 use Rattle.gc_store.specs.Stores.{IsSameStore}
-use Rattle.gc_store.specs.Words.{owned_id}
+use Rattle.gc_values.specs.Words.{owned_id}
 use Rattle.gc_store.specs.Kinds.{NamesKind}
 use Rattle.gc_objects.specs.declared.val.Val.{Val}
 use Rattle.gc_objects.specs.Writes.{SetsField}

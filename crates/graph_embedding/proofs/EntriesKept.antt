@@ -17,11 +17,11 @@ use Rattle.gc_model.proofs.Lists.{slice_get-push_old}
 use Rattle.gc_model.proofs.OwnedRoots.{owned_found, owned_one}
 use Rattle.gc_policy.specs.Accounts.{Account, HoldsAccount}
 use Rattle.gc_policy.proofs.AccountLemmas.{some_account}
-use Rattle.gc_store.specs.declared.root.GcRootIndex.{GcRootIndex}
-use Rattle.gc_store.specs.declared.root.RootSlot.TheVariants as slot
+use Rattle.gc_values.specs.declared.root.GcRootIndex.{GcRootIndex}
+use Rattle.gc_values.specs.declared.root.RootSlot.TheVariants as slot
 use Rattle.gc_store.specs.Roots.{NamesOwned, NamesReference, owned_handle}
 use Rattle.gc_store.specs.Stores.{IsSameStore}
-use Rattle.gc_store.specs.Words.{owned_id}
+use Rattle.gc_values.specs.Words.{owned_id}
 use Rattle.gc_store.specs.Kinds.{object_kind}
 use Rattle.gc_objects.proofs.Pushing.{held_table}
 use Rattle.graph_embedding.specs.Entries.{key_value, HoldsEntry, KeepsEntries}

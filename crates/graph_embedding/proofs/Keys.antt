@@ -13,8 +13,8 @@ use Rattle.gc_model.specs.Table.{Table}
 use Rattle.gc_model.specs.Stores.{StoreView}
 use Rattle.gc_policy.specs.Accounts.{Account, HoldsAccount}
 use Rattle.gc_policy.proofs.AccountLemmas.{some_account}
-use Rattle.gc_store.specs.declared.root.GcRootIndex.{GcRootIndex}
-use Rattle.gc_store.specs.declared.root.RawValue.TheVariants as raw
+use Rattle.gc_values.specs.declared.root.GcRootIndex.{GcRootIndex}
+use Rattle.gc_values.specs.declared.root.RawValue.TheVariants as raw
 use Rattle.gc_store.specs.Roots.{NamesReference, HasValue}
 use Rattle.gc_store.specs.Stores.{IsSameStore}
 use Rattle.gc_store.specs.Values.{IsReadAs}

@@ -12,7 +12,8 @@ use crate::fault::{GraphFault, not_made};
 use gc_heap::GcHeap;
 use gc_objects::{AnyRef, StructRef, StructRefPre, Val};
 use gc_store::laws::stores_hold_tables;
-use gc_store::{OwnedRooted, PageLimit, Rooted, RootedGcRef, Store};
+use gc_rooted::{OwnedRooted, Rooted, RootedGcRef};
+use gc_store::{PageLimit, Store};
 use gc_types::{FieldType, HeapType, Mutability, RefType, StorageType, VMSharedTypeIndex, ValType};
 
 /// The index of a node's key.

@@ -7,7 +7,8 @@ use crate::nodes::{
 };
 use gc_heap::GcHeap;
 use gc_objects::{AnyRef, StructRef, Val};
-use gc_store::{OwnedRooted, PageLimit, Rooted, Store, ref_eq};
+use gc_rooted::{OwnedRooted, Rooted, ref_eq};
+use gc_store::{PageLimit, Store};
 
 /// The key of the node that the nodes of a ring share.
 const SHARED_KEY: i64 = -1;

@@ -6,7 +6,8 @@ use crate::ring::{cut_ring, insert, start_ring, walk};
 use crate::survival::find_after_collections;
 use gc_heap::GcHeap;
 use gc_objects::StructRef;
-use gc_store::{GcHeapOutOfMemory, OwnedRooted, PageLimit, Store};
+use gc_rooted::OwnedRooted;
+use gc_store::{GcHeapOutOfMemory, PageLimit, Store};
 use std::io::Write;
 
 /// The bytes of a page.

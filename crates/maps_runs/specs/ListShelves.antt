@@ -4,7 +4,7 @@ use Rattle.gc_types.specs.declared.kind.Layouts.{Layouts}
 use Rattle.gc_model.specs.Table.{Table}
 use Rattle.gc_model.specs.Stores.{StoreView}
 use Rattle.gc_model.specs.Holds.{HoldsTable}
-use Rattle.gc_store.specs.declared.root.GcRootIndex.{GcRootIndex}
+use Rattle.gc_values.specs.declared.root.GcRootIndex.{GcRootIndex}
 use Rattle.gc_lists.specs.declared.kit.Kit.{Kit}
 use Rattle.gc_lists.specs.Kits.{IsKit}
 use Rattle.gc_lists.specs.Versions.{StandsForListOf}

@@ -1,7 +1,7 @@
 //! What is done with maps.
 
 ghost use Rattle.std.specs.Prelude.{◌∷◌, [], List, Option, IfOk};
-ghost use Rattle.gc_store.specs.declared.root.GcRootIndex.{GcRootIndex};
+ghost use Rattle.gc_values.specs.declared.root.GcRootIndex.{GcRootIndex};
 ghost use Rattle.gc_lists.specs.declared.kit.Kit.{Kit};
 ghost use Rattle.maps_runs.specs.Shelves.{Shelf};
 

@@ -2,7 +2,7 @@
 
 ghost use Rattle.std.specs.Prelude.{◌≡◌, [], List, Option, IfOk};
 ghost use Rattle.gc_store.specs.Stores.{IsSameStore};
-ghost use Rattle.gc_store.specs.declared.root.GcRootIndex.{GcRootIndex};
+ghost use Rattle.gc_values.specs.declared.root.GcRootIndex.{GcRootIndex};
 ghost use Rattle.gc_lists.specs.declared.kit.Kit.{Kit};
 ghost use Rattle.maps_runs.specs.ListShelves.{ListShelf};
 ghost use Rattle.maps_runs.specs.Shelves.{Shelf, id_in};

@@ -2,7 +2,7 @@
 
 ghost use Rattle.std.specs.Prelude.{false, true, ◌≡◌, ◌∷◌, ◌<◌, [], List, Option, IfOk, MatchResult};
 ghost use Rattle.gc_store.specs.Stores.{IsSameStore};
-ghost use Rattle.gc_store.specs.declared.root.GcRootIndex.{GcRootIndex};
+ghost use Rattle.gc_values.specs.declared.root.GcRootIndex.{GcRootIndex};
 ghost use Rattle.gc_lists.specs.declared.kit.Kit.{Kit};
 ghost use Rattle.gc_lists.specs.Versions.{is_version_of};
 ghost use Rattle.maps_runs.specs.Shelves.{IsRootedIn, Shelf};

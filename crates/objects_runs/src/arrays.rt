@@ -4,7 +4,8 @@ use crate::setup::{BYTES, CONSTANTS, ample, arrays_of, as_array, filled, listed,
 use crate::show::{show_made, show_read, show_type, show_write};
 use gc_heap::GcHeap;
 use gc_objects::{ArrayRef, Val};
-use gc_store::{Rooted, Store};
+use gc_rooted::Rooted;
+use gc_store::Store;
 use run_faults::Result;
 
 /// Asks for an array's length and type.

@@ -8,7 +8,8 @@ use crate::setup::{ample, exceptions};
 use crate::show::{show_read, show_type};
 use gc_heap::GcHeap;
 use gc_objects::{ExnRef, StoreExn, ThrowFault, Val};
-use gc_store::{Rooted, Store};
+use gc_rooted::Rooted;
+use gc_store::Store;
 use gc_types::Tag;
 use run_faults::{Result, RunFault};
 

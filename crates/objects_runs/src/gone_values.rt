@@ -6,7 +6,8 @@ use crate::setup::{CONSTANTS, ample, any_type, arrays_of, exceptions, new_bytes}
 use crate::structs::new_struct;
 use gc_heap::GcHeap;
 use gc_objects::{AnyRef, ArrayRef, ExnRef, Val};
-use gc_store::{Rooted, Store, ref_eq};
+use gc_rooted::{Rooted, ref_eq};
+use gc_store::Store;
 use run_faults::Result;
 
 /// Arrays of the value, which aren't made.

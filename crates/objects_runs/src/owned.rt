@@ -3,7 +3,8 @@
 use gc_heap::GcHeap;
 use gc_objects::AnyRef;
 use gc_refs::I31;
-use gc_store::{OwnedRooted, Store};
+use gc_rooted::OwnedRooted;
+use gc_store::Store;
 use run_faults::Result;
 
 /// Gives a handle up.

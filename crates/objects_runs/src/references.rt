@@ -8,7 +8,8 @@ use crate::setup::{ample, any_type};
 use gc_heap::GcHeap;
 use gc_objects::{AnyRef, ExternRef, StructRef, Val};
 use gc_refs::I31;
-use gc_store::{Rooted, RootedGcRef, Store};
+use gc_rooted::{Rooted, RootedGcRef};
+use gc_store::Store;
 use gc_types::ValType;
 use run_faults::{Result, RunFault};
 

@@ -3,7 +3,8 @@
 use gc_heap::{GcHeap, NullHeap};
 use gc_objects::AnyRef;
 use gc_refs::I31;
-use gc_store::{HeapConfig, RootFault, RootScope, Rooted, Store, StoreId};
+use gc_rooted::{RootScope, Rooted};
+use gc_store::{HeapConfig, RootFault, Store, StoreId};
 use run_faults::{Result, RunFault};
 use std::alloc::Global;
 

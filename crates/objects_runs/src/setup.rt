@@ -8,7 +8,8 @@ ghost use Rattle.gc_objects.specs.Kinds.{IsDeclaredAs};
 
 use gc_heap::GcHeap;
 use gc_objects::{AnyRef, ArrayRef, ArrayRefPre, ExnRefPre, StructRef, StructRefPre, Val};
-use gc_store::{PageLimit, Rooted, Store};
+use gc_rooted::Rooted;
+use gc_store::{PageLimit, Store};
 use gc_types::{
     FieldType, HeapType, Mutability, RefType, StorageType, TypeFault, VMSharedTypeIndex, ValType,
 };

@@ -1,7 +1,7 @@
 //! Shows what calls answer.
 
 use gc_objects::{AccessFault, AllocFault, Val};
-use gc_store::{GcRef, Rooted};
+use gc_rooted::{GcRef, Rooted};
 use run_faults::Result;
 
 /// Shows whether an object was made of what the name tells.

@@ -8,7 +8,8 @@ use crate::setup::{STRUCT, ample, as_struct, new_struct_of, structs_of};
 use crate::show::{show_made, show_read, show_type, show_write};
 use gc_heap::GcHeap;
 use gc_objects::{AnyRef, StructRef, Val};
-use gc_store::{Rooted, RootedGcRef, Store, ref_eq};
+use gc_rooted::{Rooted, RootedGcRef, ref_eq};
+use gc_store::Store;
 use run_faults::{Result, RunFault};
 
 /// Values for the fields of a struct.

@@ -6,9 +6,8 @@ ghost use Rattle.gc_owner.specs.declared.entry.GcClass.TheVariants.{Any};
 use crate::fault::CaseFault;
 use gc_heap::GcHeap;
 use gc_refs::I31;
-use gc_store::{
-    GcClass, GcRef, GcRootIndex, OwnedRooted, RootSlot, Rooted, RootedGcRef, Store, ref_eq,
-};
+use gc_rooted::{GcRef, OwnedRooted, Rooted, RootedGcRef, ref_eq};
+use gc_store::{GcClass, GcRootIndex, RootSlot, Store};
 use gc_types::VMGcKind;
 use std::io::Write;
 

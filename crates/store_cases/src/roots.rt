@@ -3,7 +3,8 @@
 use crate::fault::CaseFault;
 use gc_heap::GcHeap;
 use gc_refs::I31;
-use gc_store::{GcClass, RootAt, RootScope, Store};
+use gc_rooted::RootScope;
+use gc_store::{GcClass, RootAt, Store};
 use std::io::Write;
 
 /// Pushes a root for a small integer in a scope, and writes the answer.

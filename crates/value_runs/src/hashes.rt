@@ -4,7 +4,8 @@ use crate::raw::hash_of;
 use crate::setup::new_host;
 use gc_heap::GcHeap;
 use gc_objects::ExternRef;
-use gc_store::{OwnedRooted, Rooted, RootedGcRef, Store};
+use gc_rooted::{OwnedRooted, Rooted, RootedGcRef};
+use gc_store::Store;
 use run_faults::Result;
 use std::hash::{FoldHasher, Hasher};
 

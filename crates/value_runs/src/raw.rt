@@ -3,7 +3,8 @@
 use crate::setup::new_host;
 use gc_heap::GcHeap;
 use gc_objects::ExternRef;
-use gc_store::{GcRootIndex, OwnedRooted, Rooted, RootedGcRef, Store, ref_eq};
+use gc_rooted::{OwnedRooted, Rooted, RootedGcRef, ref_eq};
+use gc_store::{GcRootIndex, Store};
 use run_faults::{Result, RunFault};
 use std::hash::{FoldHasher, Hasher};
 

@@ -5,7 +5,8 @@ ghost use Rattle.std.specs.Iterator.{IsFinite};
 use crate::setup::{STRUCT, function, new_array, new_exception, new_struct};
 use gc_heap::GcHeap;
 use gc_objects::{ArrayRef, ExnRef, StructRef, Upcast, Val};
-use gc_store::{Rooted, Store};
+use gc_rooted::Rooted;
+use gc_store::Store;
 use run_faults::Result;
 
 /// A digit for a value: a number and a function by themselves, 8 for a reference, 9 for null and 0 for any other.

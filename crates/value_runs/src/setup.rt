@@ -10,7 +10,8 @@ use gc_heap::GcHeap;
 use gc_objects::{
     ArrayRef, ArrayRefPre, ExnRef, ExnRefPre, ExternRef, StructRef, StructRefPre, Val,
 };
-use gc_store::{PageLimit, Rooted, Store};
+use gc_rooted::Rooted;
+use gc_store::{PageLimit, Store};
 use gc_types::{
     FieldType, Func, HeapType, Mutability, RefType, StorageType, Tag, VMSharedTypeIndex, ValType,
 };

@@ -3,7 +3,8 @@
 use crate::setup::new_host;
 use gc_heap::GcHeap;
 use gc_objects::{AllocFault, ExternRef};
-use gc_store::{PageLimit, RootedGcRef, Store};
+use gc_rooted::RootedGcRef;
+use gc_store::{PageLimit, Store};
 use gc_types::{
     FieldType, HeapType, Layouts, Mutability, RefType, StorageType, Types, VMSharedTypeIndex,
     ValType,

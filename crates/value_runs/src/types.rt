@@ -5,7 +5,8 @@ ghost use Rattle.std.specs.Prelude.{◌≡◌};
 use crate::setup::{EMPTY, NARROW, UNDECLARED, new_struct};
 use gc_heap::GcHeap;
 use gc_objects::{AnyRef, Upcast};
-use gc_store::{Store, ref_eq};
+use gc_rooted::ref_eq;
+use gc_store::Store;
 use gc_types::VMSharedTypeIndex;
 use run_faults::Result;
 

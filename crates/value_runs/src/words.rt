@@ -4,7 +4,8 @@ use crate::setup::new_array;
 use gc_heap::GcHeap;
 use gc_objects::ArrayRef;
 use gc_refs::{I31, ValRaw};
-use gc_store::{OwnedRooted, Rooted, Store, ref_eq};
+use gc_rooted::{OwnedRooted, Rooted, ref_eq};
+use gc_store::Store;
 use gc_wasm_types::WasmTy;
 use run_faults::{Result, RunFault};
 

@@ -1,5 +1,5 @@
 use Rattle.std.proofs.Common.{subst, Option}
-use Rattle.gc_store.specs.declared.root.GcRootIndex.{GcRootIndex}
+use Rattle.gc_values.specs.declared.root.GcRootIndex.{GcRootIndex}
 use Rattle.gc_store.specs.Slots.{HandleStands}
 use Rattle.gc_image_collect.specs.Parts.{parts}
 use Rattle.gc_image_collect.proofs.Taken.{reference_taken}

@@ -4,8 +4,8 @@ use Rattle.std.specs.Int.{w64, cast_signed, cast_unsigned}
 use Rattle.gc_owner.specs.declared.entry.GcClass.TheVariants.{Any}
 use Rattle.gc_model.specs.Values.{numeric, i64, reference}
 use Rattle.gc_policy.proofs.AccountLemmas.{some_account}
-use Rattle.gc_store.specs.declared.root.RawValue.{RawValue}
-use Rattle.gc_store.specs.declared.root.RootFault.{RootFault}
+use Rattle.gc_values.specs.declared.root.RawValue.{RawValue}
+use Rattle.gc_values.specs.declared.root.RootFault.{RootFault}
 use Rattle.gc_store.specs.Values.{ReadsValue}
 use Rattle.gc_lists.proofs.walk.step.Goals as goal
 use Rattle.gc_lists.proofs.CellReads.{can_read_number, can_read_next, has_number, has_next, number_read, number_leaves, number_never, back}

@@ -1,5 +1,5 @@
 use Rattle.std.proofs.Common.{ℤ, List, [], ◌∷◌, ◌++◌, Option, Result, sym, ap, ◌∙◌, subst}
-use Rattle.gc_store.specs.declared.root.GcRootIndex.{GcRootIndex}
+use Rattle.gc_values.specs.declared.root.GcRootIndex.{GcRootIndex}
 use Rattle.gc_lists.specs.declared.fault.ListFault.{ListFault}
 use Rattle.gc_lists.specs.Progress.{NamesCell, Steps, StepsTo}
 use Rattle.gc_model.specs.Table.{Table}

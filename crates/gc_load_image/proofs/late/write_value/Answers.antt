@@ -1,7 +1,7 @@
 use Rattle.std.proofs.Common.{◌≡◌, ◌<◌, List, Some, length, refl, sym, ◌∙◌, subst, arith}
 use Rattle.std.specs.List.{slice_get}
 use Rattle.std.proofs.lemmas.Option.{same_Some, slice_get_within}
-use Rattle.gc_store.specs.declared.root.RawValue.TheVariants as raw
+use Rattle.gc_values.specs.declared.root.RawValue.TheVariants as raw
 use Rattle.gc_image.specs.declared.image.ImageValue.{ImageValue}
 use Rattle.gc_image.specs.declared.image.ObjectLine.{ObjectLine}
 use Rattle.gc_image.specs.Well.{line_values}

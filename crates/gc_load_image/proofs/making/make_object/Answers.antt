@@ -1,8 +1,8 @@
 use Rattle.std.proofs.Common.{◌≡◌, ◌+◌, ℕ, List, Some, Result, map, length, sym, ◌∙◌, subst, arith}
 use Rattle.std.specs.List.{slice_get}
 use Rattle.gc_types.specs.Declarations.{Declaration}
-use Rattle.gc_store.specs.declared.root.GcRootIndex.{GcRootIndex}
-use Rattle.gc_store.specs.declared.root.RawValue.{RawValue}
+use Rattle.gc_values.specs.declared.root.GcRootIndex.{GcRootIndex}
+use Rattle.gc_values.specs.declared.root.RawValue.{RawValue}
 use Rattle.gc_image.specs.declared.image.ImageValue.{ImageValue}
 use Rattle.gc_image.specs.declared.image.ObjectLine.{ObjectLine}
 use Rattle.gc_image.specs.Text.{FitsValue}

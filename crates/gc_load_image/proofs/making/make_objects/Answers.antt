@@ -2,7 +2,7 @@ use Rattle.std.proofs.Common.{◌≡◌, ◌+◌, List, length, sym, ap, ◌∙�
 use Rattle.std.specs.Prelude.{sum_by}
 use Rattle.std.specs.List.{slice_get}
 use Rattle.gc_types.specs.Declarations.{Declaration}
-use Rattle.gc_store.specs.declared.root.GcRootIndex.{GcRootIndex}
+use Rattle.gc_values.specs.declared.root.GcRootIndex.{GcRootIndex}
 use Rattle.gc_image.specs.Well.{AreWellObjects}
 use Rattle.gc_image.proofs.ElementLemmas.{item_found}
 use Rattle.gc_load_image.specs.Stages.{MadeAll, MadeNext, Making, Stops, line_roots}

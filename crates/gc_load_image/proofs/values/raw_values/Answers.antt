@@ -1,6 +1,6 @@
 use Rattle.std.proofs.Common.{◌+◌, List, [], take, sym, subst}
 use Rattle.std.proofs.lemmas.List.{take_all}
-use Rattle.gc_store.specs.declared.root.RawValue.{RawValue}
+use Rattle.gc_values.specs.declared.root.RawValue.{RawValue}
 use Rattle.gc_image.specs.declared.image.ImageValue.{ImageValue}
 use Rattle.gc_image.proofs.ElementLemmas.{item_found}
 use Rattle.gc_load_image.specs.Stages.{FailedValues, FoundValues}

@@ -4,7 +4,7 @@ use Rattle.std.proofs.lemmas.Int.{to_z-of_z}
 use Rattle.gc_model.specs.Table.{Table}
 use Rattle.gc_policy.specs.Accounts.{Account, HoldsAccount}
 use Rattle.gc_policy.proofs.AccountLemmas.{some_account}
-use Rattle.gc_store.specs.declared.root.GcRootIndex.{GcRootIndex}
+use Rattle.gc_values.specs.declared.root.GcRootIndex.{GcRootIndex}
 use Rattle.gc_maps.specs.Parts.{RootIs}
 use Rattle.gc_maps.specs.Searching.{IsSearch}
 use Rattle.gc_maps.proofs.Lookups.{Looks, looks_start, looks_none, looks_count, looks_counted, looks_past, looks_node, looks_refused, looks_here, looks_next, with_key, as_passed}

@@ -6,9 +6,9 @@ use Rattle.gc_model.specs.Table.{Table}
 use Rattle.gc_model.specs.Values.{Object, Value, struct}
 use Rattle.gc_store.specs.Requests.{CanPlaceFields, fields_of}
 use Rattle.gc_store.specs.Values.{AllStand}
-use Rattle.gc_store.specs.declared.root.RawValue.{RawValue}
-use Rattle.gc_store.specs.declared.store.PlaceFault.{PlaceFault}
-use Rattle.gc_store.specs.declared.store.PlaceFault.TheVariants as place_fault
+use Rattle.gc_values.specs.declared.root.RawValue.{RawValue}
+use Rattle.gc_values.specs.declared.faults.PlaceFault.{PlaceFault}
+use Rattle.gc_values.specs.declared.faults.PlaceFault.TheVariants as place_fault
 use Rattle.gc_maps.proofs.NodeMaking.{Placed, node_values, can_place, part_low, asked, the_object, is_of_kit, place_made, place_full, place_wants, place_lacks, refused_place}
 use Rattle.gc_policy.proofs.AccountLemmas.{some_account}
 use Rattle.gc_policy.specs.Accounts.{Account, HoldsAccount}

@@ -1,5 +1,5 @@
 use Rattle.std.proofs.Common.{pos, Option, sym, subst}
-use Rattle.gc_store.specs.declared.root.GcRootIndex.{GcRootIndex}
+use Rattle.gc_values.specs.declared.root.GcRootIndex.{GcRootIndex}
 use Rattle.gc_maps.specs.Parts.{RootIs, PartIs}
 use Rattle.gc_maps.proofs.NodeReads.{part_here, part_none, can_height}
 use Rattle.gc_maps.proofs.reading.part_of.Goals as goal

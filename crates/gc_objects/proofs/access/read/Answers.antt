@@ -1,5 +1,5 @@
 use Rattle.std.proofs.Common.{Ok, sym, subst}
-use Rattle.gc_store.specs.declared.root.RawValue.{RawValue}
+use Rattle.gc_values.specs.declared.root.RawValue.{RawValue}
 use Rattle.gc_store.specs.Values.{ReadsValue}
 use Rattle.gc_objects.proofs.Reading.{is_given, value_kind}
 use Rattle.gc_objects.proofs.access.read.Goals as goal

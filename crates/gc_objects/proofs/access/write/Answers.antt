@@ -1,6 +1,6 @@
 use Rattle.std.proofs.Common.{Ok, Err, subst}
-use Rattle.gc_store.specs.declared.root.RawValue.{RawValue}
-use Rattle.gc_store.specs.declared.write.WriteFault.TheVariants as fault
+use Rattle.gc_values.specs.declared.root.RawValue.{RawValue}
+use Rattle.gc_values.specs.declared.faults.WriteFault.TheVariants as fault
 use Rattle.gc_store.specs.Values.{WritesValue}
 use Rattle.gc_objects.proofs.WrittenValues.{ids_alone}
 use Rattle.gc_objects.proofs.access.write.Goals as goal

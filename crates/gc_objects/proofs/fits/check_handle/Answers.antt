@@ -1,6 +1,6 @@
 use Rattle.std.proofs.Common.{Result, sym, ◌∙◌, subst}
-use Rattle.gc_store.specs.declared.root.RootFault.{RootFault}
-use Rattle.gc_store.specs.declared.root.RootedObject.{RootedObject}
+use Rattle.gc_values.specs.declared.root.RootFault.{RootFault}
+use Rattle.gc_values.specs.declared.root.RootedObject.{RootedObject}
 use Rattle.gc_store.specs.Roots.{is_of_store, IsReference}
 use Rattle.gc_objects.specs.Answered.{Answers}
 use Rattle.gc_objects.proofs.ValueLemmas.{plain_checked, handle_found, handle_refused}

@@ -3,7 +3,7 @@ use Rattle.gc_model.specs.Holds.{HoldsTable}
 use Rattle.gc_model.specs.Table.{Table}
 use Rattle.gc_model.specs.Values.{at, small}
 use Rattle.gc_store.specs.Roots.{NamesNothing, NamesReference, is_of_store}
-use Rattle.gc_store.specs.declared.root.RootFault.TheVariants as root
+use Rattle.gc_values.specs.declared.root.RootFault.TheVariants as root
 use Rattle.gc_paths.specs.declared.entry.PathEntry.{PathEntry}
 use Rattle.gc_path_to.specs.Targets.{AreEarlier, PathOf}
 use Rattle.gc_paths.proofs.Growing.{same_itself}

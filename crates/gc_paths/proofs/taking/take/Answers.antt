@@ -5,7 +5,7 @@ use Rattle.gc_model.specs.Stores.{StoreView}
 use Rattle.gc_model.specs.Table.{Table}
 use Rattle.gc_model.specs.Values.{Reference, null, small, at}
 use Rattle.gc_model.proofs.Words.{place_even}
-use Rattle.gc_store.specs.declared.root.GcRootIndex.{GcRootIndex}
+use Rattle.gc_values.specs.declared.root.GcRootIndex.{GcRootIndex}
 use Rattle.gc_store.specs.Roots.{NamesReference}
 use Rattle.gc_store.proofs.HandleWords.{named_held}
 use Rattle.gc_paths.specs.declared.entry.PathParent.{PathParent}

@@ -1,7 +1,7 @@
 use Rattle.std.proofs.Common.{Result, subst}
 use Rattle.gc_model.specs.Values.{at}
-use Rattle.gc_store.specs.declared.root.RootFault.{RootFault}
-use Rattle.gc_store.specs.declared.root.RootedObject.{RootedObject}
+use Rattle.gc_values.specs.declared.root.RootFault.{RootFault}
+use Rattle.gc_values.specs.declared.root.RootedObject.{RootedObject}
 use Rattle.gc_store.specs.Roots.{TellsReference}
 use Rattle.gc_paths.proofs.Counting.{values_counted}
 use Rattle.gc_paths.proofs.values.count_values.Goals as goal

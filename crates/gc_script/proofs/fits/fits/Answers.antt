@@ -1,5 +1,5 @@
 use Rattle.std.proofs.Common.{◌≡◌, Option, None, sym, ap, ◌∙◌, subst}
-use Rattle.gc_store.specs.declared.root.GcRootIndex.{GcRootIndex}
+use Rattle.gc_values.specs.declared.root.GcRootIndex.{GcRootIndex}
 use Rattle.gc_types.specs.declared.value.ValType.{ValType}
 use Rattle.gc_types.specs.Values.{unpacked}
 use Rattle.gc_model.specs.Fits.{fits_type}

@@ -1,12 +1,12 @@
 use Rattle.std.proofs.Common.{◌≡◌, ℕ, Some, ap, ◌∙◌, subst, refl}
-use Rattle.gc_store.specs.declared.root.RawValue.TheVariants as raw
+use Rattle.gc_values.specs.declared.root.RawValue.TheVariants as raw
 use Rattle.std.specs.Prelude.{Result, Ok, Err}
 use Rattle.gc_owner.specs.declared.entry.GcClass.{GcClass}
 use Rattle.gc_script.specs.Requested.{class_of}
 use Rattle.gc_model.specs.Values.{Object}
-use Rattle.gc_store.specs.declared.root.GcRootIndex.{GcRootIndex}
-use Rattle.gc_store.specs.declared.store.PlaceFault.{PlaceFault}
-use Rattle.gc_store.specs.declared.store.PlaceFault.TheVariants as fault
+use Rattle.gc_values.specs.declared.root.GcRootIndex.{GcRootIndex}
+use Rattle.gc_values.specs.declared.faults.PlaceFault.{PlaceFault}
+use Rattle.gc_values.specs.declared.faults.PlaceFault.TheVariants as fault
 use Rattle.gc_store.specs.Places.{Places}
 use Rattle.gc_store.specs.Requests.{IsObjectOf}
 use Rattle.gc_script.specs.declared.runner.RunError.TheVariants as error

@@ -1,6 +1,6 @@
 use Rattle.std.proofs.Common.{Option, sym, ◌∙◌, subst}
 use Rattle.gc_policy.specs.Accounts.{HoldsAccount}
-use Rattle.gc_store.specs.declared.root.RawValue.{RawValue}
+use Rattle.gc_values.specs.declared.root.RawValue.{RawValue}
 use Rattle.gc_script.specs.State.{HeldOwned, StandsOwned}
 use Rattle.gc_script.specs.Shapes.{give_up}
 use Rattle.gc_script.proofs.OwnGoes.{owned_by_handle, gave_up}

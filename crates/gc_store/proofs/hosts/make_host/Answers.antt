@@ -1,9 +1,9 @@
 use Rattle.std.proofs.Common.{arith, ℕ, ◌<◌, ◌^◌, Result, sym, ◌∙◌, subst}
 use Rattle.gc_owner.specs.declared.pages.PagesFault.{PagesFault}
 use Rattle.gc_owner.specs.Growing.{OwnerState, state_of, MakesHeap}
-use Rattle.gc_store.specs.Making.{BeginsMaking}
+use Rattle.gc_values.specs.Making.{BeginsMaking}
 use Rattle.gc_store.proofs.HostPlacing.{few_begun, begun_answers}
-use Rattle.gc_store.proofs.Keeping.{Keeps, keeps-making, same_count, making_attached}
+use Rattle.gc_values.proofs.Keeping.{Keeps, keeps-making, same_count, making_attached}
 use Rattle.gc_store.proofs.hosts.make_host.Given.{Over}
 use Rattle.gc_store.proofs.hosts.make_host.Goals.{After-collect_if_due}
 use Rattle.gc_store.proofs.hosts.make_host.Goals as goal

@@ -1,5 +1,5 @@
 use Rattle.std.proofs.Common.{subst}
-use Rattle.gc_store.specs.Words.{FindsOwned}
+use Rattle.gc_values.specs.Words.{FindsOwned}
 use Rattle.gc_store.proofs.OwningHandles.{unheld_none, none_none}
 use Rattle.gc_store.proofs.owned.held_index.Goals as goal
 

@@ -3,7 +3,7 @@ use Rattle.std.specs.Option.{option_map}
 use Rattle.std.proofs.lemmas.Option.{slice_get-map, slice_get-get_or}
 use Rattle.gc_owner.specs.declared.entry.SlotEntry.{SlotEntry}
 use Rattle.gc_owner.specs.RootColumns.{empty_slot}
-use Rattle.gc_store.specs.Stores.{slot_counts}
+use Rattle.gc_values.specs.SlotCounts.{slot_counts}
 use Rattle.gc_store.proofs.RootNumbers.{skipped, slot_found}
 use Rattle.gc_store.proofs.root_words.slot_root.Goals as goal
 

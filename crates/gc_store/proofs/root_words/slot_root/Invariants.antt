@@ -2,7 +2,7 @@ use Rattle.std.proofs.Common.{◌≡◌, List, drop}
 use Rattle.std.specs.List.{slice_get}
 use Rattle.gc_owner.specs.declared.entry.SlotEntry.{SlotEntry}
 use Rattle.gc_store.specs.RootWords.{slot_roots}
-use Rattle.gc_store.specs.Stores.{slot_counts}
+use Rattle.gc_values.specs.SlotCounts.{slot_counts}
 use Rattle.gc_store.proofs.root_words.slot_root.Given as goal
 
 -- what the place holds lies in the frames from this one on

@@ -1,6 +1,6 @@
 use Rattle.std.proofs.Common.{◌≡◌, [], ◌∷◌, ◌∙◌, Option, sym, subst}
 use Rattle.gc_model.specs.Stores.{StoreView}
-use Rattle.gc_store.specs.declared.root.GcRootIndex.{GcRootIndex}
+use Rattle.gc_values.specs.declared.root.GcRootIndex.{GcRootIndex}
 use Rattle.maps_runs.specs.Shelves.{Shelf}
 use Rattle.maps_runs.proofs.foreign.run_foreign.Goals as goal
 use Rattle.maps_runs.proofs.Shelving.{alone_on, behind_on, empty_on, numbers_differ, other_version}

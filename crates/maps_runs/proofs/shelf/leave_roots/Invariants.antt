@@ -1,5 +1,5 @@
 use Rattle.std.proofs.Common.{List, Option}
-use Rattle.gc_store.specs.declared.root.GcRootIndex.{GcRootIndex}
+use Rattle.gc_values.specs.declared.root.GcRootIndex.{GcRootIndex}
 use Rattle.gc_lists.specs.declared.kit.Kit.{Kit}
 use Rattle.maps_runs.specs.Shelves.{Shelf}
 use Rattle.maps_runs.proofs.shelf.leave_roots.Given as goal

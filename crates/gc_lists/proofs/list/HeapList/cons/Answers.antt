@@ -6,10 +6,10 @@ use Rattle.gc_model.specs.Stored.{stored_in}
 use Rattle.gc_model.specs.Table.{Table}
 use Rattle.gc_policy.specs.Accounts.{Account, HoldsAccount}
 use Rattle.gc_policy.specs.Policy.{policy_state}
-use Rattle.gc_store.specs.declared.root.GcRootIndex.{GcRootIndex}
-use Rattle.gc_store.specs.declared.store.PlaceFault.{PlaceFault}
+use Rattle.gc_values.specs.declared.root.GcRootIndex.{GcRootIndex}
+use Rattle.gc_values.specs.declared.faults.PlaceFault.{PlaceFault}
 use Rattle.gc_policy.proofs.AccountLemmas.{some_account}
-use Rattle.gc_store.specs.declared.store.PlaceFault.TheVariants as place_fault
+use Rattle.gc_values.specs.declared.faults.PlaceFault.TheVariants as place_fault
 use Rattle.gc_store.specs.Places.{Places}
 use Rattle.gc_store.specs.Requests.{CanPlaceFields, fields_of}
 use Rattle.gc_store.specs.Values.{AllStand}

@@ -2,8 +2,8 @@ use Rattle.std.proofs.Common.{◌≡◌, ℤ, List, Some, Result, Ok, sym, ap, �
 use Rattle.std.specs.List.{slice_get}
 use Rattle.gc_policy.proofs.AccountLemmas.{some_account}
 use Rattle.gc_model.specs.Values.{numeric, i64}
-use Rattle.gc_store.specs.declared.root.RawValue.{RawValue}
-use Rattle.gc_store.specs.declared.root.RootFault.{RootFault}
+use Rattle.gc_values.specs.declared.root.RawValue.{RawValue}
+use Rattle.gc_values.specs.declared.root.RootFault.{RootFault}
 use Rattle.gc_store.specs.Values.{ReadsValue}
 use Rattle.gc_lists.proofs.list.HeapList.head.Goals as goal
 use Rattle.gc_lists.proofs.CellReads.{version_cell, has_number, can_read_number, number_read, number_leaves, number_never, back, empty_list}

@@ -1,9 +1,9 @@
 use Rattle.std.proofs.Common.{drop, length, refl, Option, Result, Err, sym, ◌∙◌, subst}
 use Rattle.gc_owner.specs.declared.entry.GcClass.TheVariants.{Any}
 use Rattle.gc_model.specs.Values.{reference}
-use Rattle.gc_store.specs.declared.root.RawValue.{RawValue}
-use Rattle.gc_store.specs.declared.root.RootFault.{RootFault}
-use Rattle.gc_store.specs.declared.root.GcRootIndex.{GcRootIndex}
+use Rattle.gc_values.specs.declared.root.RawValue.{RawValue}
+use Rattle.gc_values.specs.declared.root.RootFault.{RootFault}
+use Rattle.gc_values.specs.declared.root.GcRootIndex.{GcRootIndex}
 use Rattle.gc_store.specs.Values.{ReadsValue}
 use Rattle.gc_lists.specs.declared.fault.ListFault.{ListFault}
 use Rattle.gc_lists.specs.Answers.{AnswersVersion, AreNumbers, KeepsRoot, Tails}

@@ -1,5 +1,5 @@
 use Rattle.std.proofs.Common.{subst}
-use Rattle.gc_store.specs.declared.root.GcRootIndex.{GcRootIndex}
+use Rattle.gc_values.specs.declared.root.GcRootIndex.{GcRootIndex}
 use Rattle.gc_objects.specs.Answered.{IsNamedArray}
 use Rattle.gc_objects.specs.Reads.{IsOutside}
 use Rattle.gc_store.specs.Roots.{is_of_store}

@@ -1,5 +1,5 @@
 use Rattle.std.proofs.Common.{subst}
-use Rattle.gc_store.specs.declared.root.GcRootIndex.{GcRootIndex}
+use Rattle.gc_values.specs.declared.root.GcRootIndex.{GcRootIndex}
 use Rattle.gc_objects.specs.Reads.{ReadsAt}
 use Rattle.gc_objects.proofs.Pushing.{held_table}
 use Rattle.gc_objects.proofs.marks.ExnRef.field.Goals as goal

@@ -1,7 +1,7 @@
 use Rattle.std.proofs.Common.{Some, Ok, ap, sym, ◌∙◌, subst}
 use Rattle.std.specs.Prelude.{Option}
 use Rattle.gc_types.specs.declared.kind.VMGcKind.TheVariants as kinds
-use Rattle.gc_store.specs.declared.root.GcRootIndex.{GcRootIndex}
+use Rattle.gc_values.specs.declared.root.GcRootIndex.{GcRootIndex}
 use Rattle.gc_store.specs.RawWords.{PushesWord}
 use Rattle.gc_objects.proofs.Pushed.{handle_kind}
 use Rattle.gc_objects.proofs.WordLemmas.{taken_kind, word_positive}

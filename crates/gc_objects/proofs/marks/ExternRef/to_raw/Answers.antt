@@ -1,6 +1,6 @@
 use Rattle.std.proofs.Common.{sym, ap, ◌∙◌, subst}
 use Rattle.gc_types.specs.declared.kind.VMGcKind.TheVariants as kinds
-use Rattle.gc_store.specs.declared.root.GcRootIndex.{GcRootIndex}
+use Rattle.gc_values.specs.declared.root.GcRootIndex.{GcRootIndex}
 use Rattle.gc_store.specs.Roots.{is_of_store, NamesReference, NamesNothing}
 use Rattle.gc_objects.proofs.WordLemmas.{told_here}
 use Rattle.gc_objects.proofs.marks.ExternRef.to_raw.Goals as goal

@@ -1,5 +1,5 @@
 use Rattle.std.proofs.Common.{Result, sym, refl, subst}
-use Rattle.gc_store.specs.declared.root.GcRootIndex.{GcRootIndex}
+use Rattle.gc_values.specs.declared.root.GcRootIndex.{GcRootIndex}
 use Rattle.gc_store.specs.Roots.{is_of_store}
 use Rattle.gc_objects.specs.declared.throwing.ThrowFault.{ThrowFault}
 use Rattle.gc_objects.specs.Answered.{Answers}

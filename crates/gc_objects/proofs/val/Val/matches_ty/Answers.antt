@@ -1,5 +1,5 @@
 use Rattle.std.proofs.Common.{subst}
-use Rattle.gc_store.specs.declared.root.RawValue.{RawValue}
+use Rattle.gc_values.specs.declared.root.RawValue.{RawValue}
 use Rattle.gc_objects.specs.Answered.{RawFitsType}
 use Rattle.gc_objects.proofs.val.Val.matches_ty.Goals as goal
 

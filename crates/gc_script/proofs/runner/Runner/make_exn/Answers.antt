@@ -1,5 +1,5 @@
 use Rattle.std.proofs.Common.{ℕ, refl, subst}
-use Rattle.gc_store.specs.declared.request.Place.TheVariants as place
+use Rattle.gc_values.specs.declared.request.Place.TheVariants as place
 use Rattle.gc_commands.specs.declared.command.Command.TheVariants.{NewExn}
 use Rattle.gc_script.specs.Run.{RunsOne}
 use Rattle.gc_script.specs.Requested.{requested_tests}

@@ -6,10 +6,10 @@ use Rattle.std.proofs.lemmas.List.{length-map}
 use Rattle.std.proofs.lemmas.Option.{none-some}
 use Rattle.gc_types.specs.declared.value.FieldType.{FieldType}
 use Rattle.gc_types.specs.Declarations.{Declaration, TypeTable}
-use Rattle.gc_store.specs.declared.request.Place.{Place}
-use Rattle.gc_store.specs.declared.request.Place.TheVariants as place
-use Rattle.gc_store.specs.declared.request.Contents.TheVariants as contents
-use Rattle.gc_store.specs.declared.root.RawValue.{RawValue}
+use Rattle.gc_values.specs.declared.request.Place.{Place}
+use Rattle.gc_values.specs.declared.request.Place.TheVariants as place
+use Rattle.gc_values.specs.declared.request.Contents.TheVariants as contents
+use Rattle.gc_values.specs.declared.root.RawValue.{RawValue}
 use Rattle.gc_store.specs.Requests.{CanPlaceIn, CanPlaceFields, IsObjectOf}
 use Rattle.gc_store.specs.Values.{AllStand}
 use Rattle.gc_commands.specs.declared.reply.Refusal.TheVariants as refusal

@@ -24,7 +24,7 @@ use Rattle.gc_script.proofs.RequestLemmas.{elements_request, many_refused}
 use Rattle.gc_script.specs.Steps.{any_unset, tests, first_failing, heap_tests}
 use Rattle.gc_script.specs.Wants.{MayWant}
 use Rattle.gc_store.specs.Values.{AllStand}
-use Rattle.gc_store.specs.declared.root.RawValue.{RawValue}
+use Rattle.gc_values.specs.declared.root.RawValue.{RawValue}
 use Rattle.gc_script.proofs.OperandLemmas.{are_held}
 use Rattle.gc_script.proofs.ResultLemmas.{on_any_err, succeeded}
 use Rattle.gc_script.proofs.WantLemmas.{room_may}

@@ -4,7 +4,7 @@ use Rattle.gc_owner.specs.declared.entry.GcClass.TheVariants as class
 use Rattle.gc_model.specs.Values.{Object}
 use Rattle.gc_store.specs.declared.hosts.PlaceHostFault.{PlaceHostFault}
 use Rattle.gc_store.specs.declared.hosts.PlaceHostFault.TheVariants as fault
-use Rattle.gc_store.specs.declared.root.GcRootIndex.{GcRootIndex}
+use Rattle.gc_values.specs.declared.root.GcRootIndex.{GcRootIndex}
 use Rattle.gc_store.specs.HostPlaces.{PlacesHost}
 use Rattle.gc_script.specs.declared.runner.RunError.TheVariants as error
 use Rattle.gc_script.specs.Slots.{RunnerView, register_at}

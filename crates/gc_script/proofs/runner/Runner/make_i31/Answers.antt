@@ -1,7 +1,7 @@
 use Rattle.std.proofs.Common.{ap, ◌∙◌, subst}
 use Rattle.std.specs.Prelude.{Err}
 use Rattle.gc_model.specs.Values.{small}
-use Rattle.gc_store.specs.declared.root.RootFault.{RootFault}
+use Rattle.gc_values.specs.declared.root.RootFault.{RootFault}
 use Rattle.gc_store.specs.Handles.{PushesRoot}
 use Rattle.gc_script.specs.Slots.{RunnerView, register_at}
 use Rattle.gc_script.proofs.MakeLemmas.{small_made, small_refused}

@@ -1,6 +1,6 @@
 use Rattle.std.proofs.Common.{Some, ap, ◌∙◌, inl, inr, sym}
 use Rattle.gc_owner.specs.declared.entry.GcClass.TheVariants as class
-use Rattle.gc_store.specs.declared.root.RawValue.TheVariants as raw
+use Rattle.gc_values.specs.declared.root.RawValue.TheVariants as raw
 use Rattle.gc_script.specs.Slots.{RunnerView, register_at}
 use Rattle.gc_script.proofs.ResultLemmas.{failed}
 use Rattle.gc_script.proofs.WantLemmas.{new_register, pending_fault, take_may}

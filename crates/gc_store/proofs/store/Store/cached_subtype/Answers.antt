@@ -1,9 +1,9 @@
 use Rattle.std.proofs.Common.{Bool, sym, subst}
 use Rattle.gc_types.specs.Declarations.{TypeTable}
 use Rattle.gc_model.specs.Stores.{StoreView}
-use Rattle.gc_store.specs.declared.subtypes.TypePair.{TypePair}
-use Rattle.gc_store.specs.Subtypes.{TellsKept, keeps, keeps_pair}
-use Rattle.gc_store.proofs.KeptPairs.{pair_told}
+use Rattle.gc_values.specs.declared.subtypes.TypePair.{TypePair}
+use Rattle.gc_values.specs.Subtypes.{TellsKept, keeps, keeps_pair}
+use Rattle.gc_values.proofs.KeptPairs.{pair_told}
 use Rattle.gc_store.proofs.store.Store.cached_subtype.Goals as goal
 
 pub returns : goal.returns

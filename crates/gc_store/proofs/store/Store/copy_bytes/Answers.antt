@@ -8,7 +8,7 @@ use Rattle.gc_model.specs.Holds.{HoldsTable}
 use Rattle.gc_model.specs.Stores.{StoreView}
 use Rattle.gc_store.specs.Roots.{word_of}
 use Rattle.gc_store.specs.Bytes.{CanCopyBytes, NamesBytes}
-use Rattle.gc_store.specs.HeldSlots.{FindsHeldSlot, IsHeldWithSlot}
+use Rattle.gc_values.specs.HeldSlots.{FindsHeldSlot, IsHeldWithSlot}
 use Rattle.gc_store.specs.Stores.{store_view, tables_of}
 use Rattle.gc_store.proofs.Roots.{SomeIff-value, SomeIff-some}
 use Rattle.gc_store.proofs.CopiedBytes.{BytesAt, bytes_at, bytes_live, first_found, first_held, all_readable, same_length, values_are}

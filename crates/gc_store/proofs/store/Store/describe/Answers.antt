@@ -2,7 +2,7 @@ use Rattle.std.proofs.Common.{◌≡◌, ℕ, ◌%◌, ap, sym, ◌∙◌, subst
 use Rattle.std.specs.FinMap as map
 use Rattle.gc_view.specs.Heaps.{HeapView}
 use Rattle.gc_model.specs.Stores.{StoreView}
-use Rattle.gc_store.specs.Described.{TellsHeld}
+use Rattle.gc_values.specs.Described.{TellsHeld}
 use Rattle.gc_store.proofs.Roots.{SomeIff-value, describes_small, describes_object, held_object, is_even}
 use Rattle.gc_store.proofs.store.Store.describe.Given as given
 use Rattle.gc_store.proofs.store.Store.describe.Goals as goal

@@ -10,8 +10,8 @@ use Rattle.gc_model.specs.Table.{Table}
 use Rattle.gc_model.specs.Holds.{Placing, Holds}
 use Rattle.gc_model.specs.Stores.{StoreView}
 use Rattle.gc_store.specs.Roots.{CanRead, HasValue, word_of}
-use Rattle.gc_store.specs.Kept.{FoundStands}
-use Rattle.gc_store.specs.HeldSlots.{storage_slot, FindsAt, FitsAt, FindsHeldSlot, IsHeldWithSlot}
+use Rattle.gc_values.specs.Kept.{FoundStands}
+use Rattle.gc_values.specs.HeldSlots.{storage_slot, FindsAt, FitsAt, FindsHeldSlot, IsHeldWithSlot}
 use Rattle.gc_store.specs.Stores.{store_view, tables_of}
 use Rattle.gc_store.proofs.Roots.{SomeIff-value, SomeIff-some}
 use Rattle.gc_store.proofs.LyingAt.{LyingAt, lying_at, value_live, has_slot, slot_readable, slot_is_found, found_stands}

@@ -1,5 +1,5 @@
 use Rattle.std.proofs.Common.{Option, sym, subst}
-use Rattle.gc_store.specs.declared.root.GcRootIndex.{GcRootIndex}
+use Rattle.gc_values.specs.declared.root.GcRootIndex.{GcRootIndex}
 use Rattle.gc_store.specs.Slots.{FindsWord}
 use Rattle.gc_store.proofs.HandleWords.{finds_word}
 use Rattle.gc_store.proofs.store.Store.handle_word.Goals as goal

@@ -1,7 +1,7 @@
 use Rattle.std.proofs.Common.{ℕ, Option, Result, Ok, sym, ap, ◌∙◌, subst}
 use Rattle.std.specs.FinMap.{get}
 use Rattle.gc_model.specs.Stores.{StoreView}
-use Rattle.gc_store.specs.declared.root.RootFault.{RootFault}
+use Rattle.gc_values.specs.declared.root.RootFault.{RootFault}
 use Rattle.gc_store.specs.HostSteps.{HasHostId, FindsHostId}
 use Rattle.gc_store.proofs.HostReads.{host_under}
 use Rattle.gc_store.proofs.store.Store.host_data.Goals as goal

@@ -5,8 +5,8 @@ use Rattle.gc_model.specs.Values as values
 use Rattle.gc_model.specs.Values.{Reference}
 use Rattle.gc_model.specs.Table.{Table}
 use Rattle.gc_model.specs.Holds.{Placing, Holds}
-use Rattle.gc_store.specs.declared.root.RootFault.{RootFault}
-use Rattle.gc_store.specs.declared.root.RootFault.TheVariants as root_fault
+use Rattle.gc_values.specs.declared.root.RootFault.{RootFault}
+use Rattle.gc_values.specs.declared.root.RootFault.TheVariants as root_fault
 use Rattle.gc_store.specs.HostLends.{told_of_host}
 use Rattle.gc_store.specs.HostSteps.{HasHostId, FindsHostId}
 use Rattle.gc_store.specs.Roots.{NamesReference}

@@ -1,9 +1,9 @@
 use Rattle.std.proofs.Common.{subst}
 use Rattle.gc_types.specs.Declarations.{TypeTable}
 use Rattle.gc_model.specs.Stores.{StoreView}
-use Rattle.gc_store.specs.declared.subtypes.TypePair.{TypePair}
-use Rattle.gc_store.specs.Subtypes.{KeepsPairs, Remembers, pairs_of}
-use Rattle.gc_store.proofs.KeptPairs.{pairs_kept}
+use Rattle.gc_values.specs.declared.subtypes.TypePair.{TypePair}
+use Rattle.gc_values.specs.Subtypes.{KeepsPairs, Remembers, pairs_of}
+use Rattle.gc_values.proofs.KeptPairs.{pairs_kept}
 use Rattle.gc_store.proofs.store.Store.is_subtype_cached.Goals as goal
 
 pub returns-clause-kept : goal.returns-clause-kept

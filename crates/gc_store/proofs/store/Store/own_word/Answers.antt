@@ -1,8 +1,8 @@
 use Rattle.std.proofs.Common.{◌≡◌, ap, sym, ◌∙◌, subst, arith}
 use Rattle.std.specs.Prelude.{OnOk}
 use Rattle.gc_model.specs.Stores.{StoreView}
-use Rattle.gc_store.specs.declared.root.RootSlot.TheVariants as slot
-use Rattle.gc_store.specs.Words.{owned_id}
+use Rattle.gc_values.specs.declared.root.RootSlot.TheVariants as slot
+use Rattle.gc_values.specs.Words.{owned_id}
 use Rattle.gc_store.specs.OwnedWords.{HoldsThere, AddsOwned}
 use Rattle.gc_store.proofs.OwningRoots.{owned_full_is, owns_left, owns_word}
 use Rattle.gc_store.proofs.store.Store.own_word.Goals as goal

@@ -2,7 +2,7 @@ use Rattle.std.proofs.Common.{◌≡◌, ◌<◌, Some, ap, sym, ◌∙◌, subs
 use Rattle.gc_model.specs.Table.{Table}
 use Rattle.gc_model.specs.Stores.{StoreView}
 use Rattle.gc_model.specs.Holds.{Holds, Placing, IsException}
-use Rattle.gc_store.specs.declared.root.RootedObject.TheVariants as rooted_object
+use Rattle.gc_values.specs.declared.root.RootedObject.TheVariants as rooted_object
 use Rattle.gc_store.proofs.PendingLemmas.{some_pending, told_exception}
 use Rattle.gc_store.proofs.store.Store.pending_exception_tag_and_instance.Given as given
 use Rattle.gc_store.proofs.store.Store.pending_exception_tag_and_instance.Goals as goal

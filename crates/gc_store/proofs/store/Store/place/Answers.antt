@@ -19,18 +19,18 @@ use Rattle.gc_policy.specs.Accounts.{Account, HoldsAccount, is_due}
 use Rattle.gc_policy.specs.Policy as policy
 use Rattle.gc_policy.specs.Policy.{policy_state}
 use Rattle.gc_policy.specs.Shown.{shown}
-use Rattle.gc_store.specs.declared.store.PlaceFault.{PlaceFault}
-use Rattle.gc_store.specs.declared.root.GcRootIndex.{GcRootIndex}
-use Rattle.gc_store.specs.declared.root.RootSlot.TheVariants as slot
-use Rattle.gc_store.specs.Filling.{asked_type, front_of, ContentsFit, ContentsStand, FillsBy, IsToFill}
-use Rattle.gc_store.specs.Making.{BeginsMaking, IsSizeOf, MakesRooted, TellsSize, described_by}
-use Rattle.gc_store.specs.Interning.{CanInternAll, HaveAllIdsLeft, InternsAll, MakesRooms, given_values}
+use Rattle.gc_values.specs.declared.faults.PlaceFault.{PlaceFault}
+use Rattle.gc_values.specs.declared.root.GcRootIndex.{GcRootIndex}
+use Rattle.gc_values.specs.declared.root.RootSlot.TheVariants as slot
+use Rattle.gc_values.specs.Filling.{asked_type, front_of, ContentsFit, ContentsStand, FillsBy, IsToFill}
+use Rattle.gc_values.specs.Making.{BeginsMaking, IsSizeOf, MakesRooted, TellsSize, described_by}
+use Rattle.gc_values.specs.Interning.{CanInternAll, HaveAllIdsLeft, InternsAll, MakesRooms, given_values, ids_of}
 use Rattle.gc_store.specs.Places.{Places, PlacesObject, HasIds}
-use Rattle.gc_store.specs.Values.{raw_side_values}
+use Rattle.gc_values.specs.RawValues.{raw_side_values}
 use Rattle.gc_store.specs.Requests.{CanPlaceIn, IsObjectOf}
-use Rattle.gc_store.specs.Stores.{ids_of, store_view, tables_by, tables_of, is_full, scoped_places}
-use Rattle.gc_store.proofs.GivenValues.{interned_ids, rooms_can, rooms_ids, rooms_left}
-use Rattle.gc_store.proofs.Keeping.{counts_of}
+use Rattle.gc_store.specs.Stores.{store_view, tables_by, tables_of, is_full, scoped_places}
+use Rattle.gc_values.proofs.GivenValues.{interned_ids, rooms_can, rooms_ids, rooms_left}
+use Rattle.gc_values.proofs.Keeping.{counts_of}
 use Rattle.gc_store.proofs.NewObjects.{IsNew, asked_kind}
 use Rattle.gc_store.proofs.Placing.{IsStart, reserved_start, Creates, IsLastRoot, last_root, KeepsRest, made_keeps, may_fill, placing_follows}
 use Rattle.gc_store.proofs.PlacingFaults.{FollowsFault, fault_follows, fault_keeps}

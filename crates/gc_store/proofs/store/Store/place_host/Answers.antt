@@ -16,12 +16,12 @@ use Rattle.gc_policy.specs.Shown.{shown}
 use Rattle.gc_policy.proofs.HeldHosts.{few_hosts}
 use Rattle.gc_store.specs.Stores.{store_view, is_full, scoped_places, tables_of}
 use Rattle.gc_store.specs.declared.hosts.PlaceHostFault.{PlaceHostFault}
-use Rattle.gc_store.specs.declared.root.GcRootIndex.{GcRootIndex}
-use Rattle.gc_store.specs.declared.root.RootSlot.TheVariants as slot
+use Rattle.gc_values.specs.declared.root.GcRootIndex.{GcRootIndex}
+use Rattle.gc_values.specs.declared.root.RootSlot.TheVariants as slot
 use Rattle.gc_store.specs.HostPlaces.{PlacesHost}
 use Rattle.gc_store.specs.HostSteps.{MakesHost}
 use Rattle.gc_store.proofs.HostPlacing.{host_follows, host_fault_follows, host_leaves, host_keeps}
-use Rattle.gc_store.proofs.Keeping.{counts_of}
+use Rattle.gc_values.proofs.Keeping.{counts_of}
 use Rattle.gc_store.proofs.Preparing.{IsReadyStore, reserved_store}
 use Rattle.gc_store.proofs.Pushing.{full_is}
 use Rattle.gc_store.proofs.store.Store.place_host.Given as given

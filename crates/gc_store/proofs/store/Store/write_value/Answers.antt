@@ -3,26 +3,28 @@ use Rattle.std.specs.FinMap as finite
 use Rattle.gc_types.specs.Declarations.{TypeTable, Declaration}
 use Rattle.gc_view.specs.Heaps.{HeapObject, HeapView}
 use Rattle.gc_heap.specs.Heap.{put_object, with_data}
-use Rattle.gc_store.specs.Words.{HandleRoots, handle_roots, AreRising}
+use Rattle.gc_values.specs.Words.{HandleRoots, handle_roots, AreRising}
 use Rattle.gc_owner.specs.Owners.{OwnerView}
 use Rattle.gc_policy.specs.Accounts.{Account, HoldsAccount}
 use Rattle.gc_model.specs.Stored.{stored}
 use Rattle.gc_model.specs.Table.{Table, write}
 use Rattle.gc_model.specs.Stores.{StoreView}
 use Rattle.gc_model.specs.Holds.{InternedIds}
-use Rattle.gc_store.specs.Filling.{slot_bytes}
-use Rattle.gc_store.specs.Kept.{code_of, KeptAs, IsKept}
-use Rattle.gc_store.specs.HeldSlots.{FindsHeldSlot, IsHeldWithSlot}
+use Rattle.gc_values.specs.Filling.{slot_bytes}
+use Rattle.gc_values.specs.Kept.{code_of, KeptAs, IsKept}
+use Rattle.gc_values.specs.HeldSlots.{FindsHeldSlot, IsHeldWithSlot}
 use Rattle.gc_store.specs.Roots.{word_of}
-use Rattle.gc_store.specs.Values.{CanWrite, KeepsValue, WritesValue, raw_side_values}
-use Rattle.gc_store.specs.declared.write.WriteFault.{WriteFault}
+use Rattle.gc_store.specs.Values.{CanWrite, KeepsValue, WritesValue}
+use Rattle.gc_values.specs.RawValues.{raw_side_values}
+use Rattle.gc_values.specs.declared.faults.WriteFault.{WriteFault}
 use Rattle.gc_store.proofs.PlacingIds.{refused_value}
 use Rattle.gc_store.proofs.SameRoots.{same_err}
-use Rattle.gc_store.specs.Stores.{IsSound, ids_of, store_view, tables_by, tables_of}
-use Rattle.gc_store.specs.Interning.{HaveAllIdsLeft, InternsAll}
-use Rattle.gc_store.proofs.EachValue.{are_words, kept_of_form}
-use Rattle.gc_store.proofs.GivenValues.{given_refused, within_ids}
-use Rattle.gc_store.proofs.Keeping.{counts_of}
+use Rattle.gc_store.specs.Stores.{IsSound, store_view, tables_by, tables_of}
+use Rattle.gc_values.specs.Interning.{ids_of, HaveAllIdsLeft, InternsAll}
+use Rattle.gc_values.proofs.EachValue.{are_words, kept_of_form}
+use Rattle.gc_values.proofs.GivenValues.{given_refused}
+use Rattle.gc_store.proofs.StandingValues.{within_ids}
+use Rattle.gc_values.proofs.Keeping.{counts_of}
 use Rattle.gc_store.proofs.Roots.{SomeIff-value, SomeIff-some}
 use Rattle.gc_store.proofs.LyingAt.{value_live, has_slot}
 use Rattle.gc_store.proofs.WritingAt.{spot, spot_slot, spot_form, spot_kept, keeps_value, some_written}

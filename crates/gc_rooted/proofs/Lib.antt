@@ -1,0 +1,2 @@
+pub mod GoneRoots
+pub mod Marked

@@ -1,9 +1,0 @@
-use Rattle.std.proofs.Common.{take}
-use Rattle.gc_model.specs.SideValues.{same_function}
-use Rattle.gc_model.proofs.Interned.{functions_exact}
-use Rattle.gc_store.specs.Values.{raw_functions}
-use Rattle.gc_store.proofs.InterningLemmas.{AreNew}
-use Rattle.gc_store.proofs.interned.count_new_functions.Given as goal
-
-abbrev pub invariant-loop-value : goal.invariant-loop-value
-invariant-loop-value l = AreNew same_function functions_exact l.functions.entries l.new.entries (raw_functions (take l.value-index l.values))

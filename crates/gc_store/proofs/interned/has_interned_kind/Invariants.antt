@@ -1,7 +1,0 @@
-use Rattle.std.proofs.Common.{◌≡◌, take}
-use Rattle.gc_model.specs.SideValues.{no_side_values}
-use Rattle.gc_store.specs.Values.{raw_side_values}
-use Rattle.gc_store.proofs.interned.has_interned_kind.Given as goal
-
-abbrev pub invariant-loop-value : goal.invariant-loop-value
-invariant-loop-value l = raw_side_values (take l.value-index l.values) ≡ no_side_values

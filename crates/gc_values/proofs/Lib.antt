@@ -1,0 +1,16 @@
+pub mod AskedTypes
+pub mod Describing
+pub mod EachValue
+pub mod Filled
+pub mod GivenValues
+pub mod InterningLemmas
+pub mod Keeping
+pub mod KeptPairs
+pub mod OwnedKept
+pub mod OwnedWords
+pub mod Rewriting
+pub mod SameValue
+pub mod ShapeSlots
+pub mod SlotPlaces
+pub mod SlotWrites
+pub mod TagLemmas

@@ -1,0 +1,13 @@
+pub mod Described
+pub mod Filling
+pub mod HeldSlots
+pub mod Ids
+pub mod Interning
+pub mod Kept
+pub mod Making
+pub mod OwnTypes
+pub mod RawValues
+pub mod SlotCounts
+pub mod Subtypes
+pub mod Tagging
+pub mod Words

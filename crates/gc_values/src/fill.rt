@@ -1,0 +1,228 @@
+//! The values of a new object, which are all 0 before.
+
+ghost use Rattle.std.specs.Prelude.{◌≡◌, ◌<◌, ◌%◌, ℕ, true, length, slice_index_or};
+ghost use Rattle.gc_values.specs.declared.stored.Stored.TheVariants as kept;
+ghost use Rattle.gc_values.specs.HeldSlots.{storage_slot};
+ghost use Rattle.gc_values.specs.Interning.{ids_of};
+ghost use Rattle.gc_values.specs.Filling.{CanFill, FillsNew, FillsAs, IsOfAskedKind, front_of, EachFits, EachStands, SameFits, SameStands, BytesFit, BytesStand};
+ghost use Rattle.gc_values.specs.Filling.{ContentsFit, ContentsStand, asked_type, AreElements, FillsAll, IsWidth};
+
+use crate::interned::InternedValues;
+use crate::request::{Contents, Place};
+use crate::root::RawValue;
+use crate::slot::{Slot, slot_at};
+use crate::stored::{Stored, stored_value, write_slot};
+use crate::tag::write_tag;
+use gc_heap::GcHeap;
+use gc_owner::HeapOwner;
+use gc_refs::VMGcRef;
+use gc_types::VMSharedTypeIndex;
+
+/// How many bytes the greatest number has: a multiple of each width.
+const BLOCK: usize = 16;
+
+/// How many bytes of equal elements are written at once: a multiple of a block's.
+const CHUNK: usize = 256;
+
+/// Writes each value into the slot of its index.
+#[inline(always)]
+fn write_values<H: GcHeap, D: Drop>(
+    owner: &mut HeapOwner<H, D>,
+    interned: &InternedValues,
+    gc_ref: &VMGcRef,
+    ty: VMSharedTypeIndex,
+    values: &[RawValue],
+)
+    requires idle { owner.old.seen.idle ≡ true }
+    requires can { CanFill H.KIND owner.old.seen gc_ref.now ty (EachFits (ids_of interned.now) values.now) }
+    ensures { FillsNew H.KIND owner.old.seen owner.new.seen gc_ref.now ty
+        (EachFits (ids_of interned.now) values.now) (EachStands (ids_of interned.now) values.now) }
+{
+    for (index, value) in values.iter().enumerate() {
+        owner.is_ready();
+        let slot = slot_at(owner.types(), H::KIND, ty, index as u32);
+        let stored = stored_value(interned, owner.scoped(), owner.owned(), value);
+        write_slot(owner, gc_ref, &slot, stored);
+    }
+}
+
+/// The first bytes, as often as they go into a block.
+fn repeat_in_block(bytes: &[u8; BLOCK], width: usize) -> [u8; BLOCK]
+    requires { IsWidth width }
+    ensures size { length result ≡ 16 }
+    ensures same { (k : ℕ) → k < 16 → slice_index_or result k 0 ≡ slice_index_or bytes.now (k % width) 0 }
+{
+    let mut block = [0; BLOCK];
+    for at in 0..BLOCK {
+        block[at] = bytes[at % width];
+    }
+    block
+}
+
+/// The first bytes, over and over.
+fn repeat(bytes: &[u8; BLOCK], width: usize) -> [u8; CHUNK]
+    requires { IsWidth width }
+    ensures size { length result ≡ 256 }
+    ensures same { (k : ℕ) → k < 256 → slice_index_or result k 0 ≡ slice_index_or bytes.now (k % width) 0 }
+{
+    let block = repeat_in_block(bytes, width);
+    let mut chunk = [0; CHUNK];
+    for index in 0..CHUNK / BLOCK {
+        let at = BLOCK * index;
+        chunk[at..at + BLOCK].copy_from_slice(&block);
+    }
+    chunk
+}
+
+/// Writes a number into so many elements of an array that follow each other from one on.
+fn write_numbers<H: GcHeap, D: Drop>(
+    owner: &mut HeapOwner<H, D>,
+    gc_ref: &VMGcRef,
+    first: &Slot,
+    count: u32,
+    number: u128,
+)
+    requires idle { owner.old.seen.idle ≡ true }
+    requires can { AreElements H.KIND owner.old.seen gc_ref.now (storage_slot first.now) count (kept.Number number) }
+    ensures { FillsAll H.KIND owner.old.seen owner.new.seen gc_ref.now (storage_slot first.now) count (kept.Number number) }
+{
+    owner.is_ready();
+    let width = first.storage.width();
+    let bytes = number.to_le_bytes();
+    if bytes[..width as usize] == [0; 16][..width as usize] {
+        return;
+    }
+    let chunk = repeat(&bytes, width as usize);
+    let most = CHUNK as u32 / width;
+    let mut done = 0;
+    while done < count {
+        owner.is_ready();
+        let more = most.min(count - done);
+        let part = &chunk[..(more * width) as usize];
+        owner.write_number(gc_ref, first.offset + done * width, part);
+        done += more;
+    }
+}
+
+/// Writes a reference into so many elements of an array that follow each other from one on.
+fn write_references<H: GcHeap, D: Drop>(
+    owner: &mut HeapOwner<H, D>,
+    gc_ref: &VMGcRef,
+    first: &Slot,
+    count: u32,
+    word: u32,
+)
+    requires idle { owner.old.seen.idle ≡ true }
+    requires can { AreElements H.KIND owner.old.seen gc_ref.now (storage_slot first.now) count (kept.Ref word) }
+    ensures { FillsAll H.KIND owner.old.seen owner.new.seen gc_ref.now (storage_slot first.now) count (kept.Ref word) }
+{
+    if word == 0 {
+        return;
+    }
+    let width = first.storage.width();
+    for index in 0..count {
+        owner.is_ready();
+        let slot = Slot {
+            storage: first.storage,
+            offset: first.offset + index * width,
+        };
+        write_slot(owner, gc_ref, &slot, Stored::Ref(word));
+    }
+}
+
+/// Writes what is kept of a value into so many elements of an array that follow each other from one on.
+fn write_elements<H: GcHeap, D: Drop>(
+    owner: &mut HeapOwner<H, D>,
+    gc_ref: &VMGcRef,
+    first: &Slot,
+    count: u32,
+    stored: Stored,
+)
+    requires idle { owner.old.seen.idle ≡ true }
+    requires can { AreElements H.KIND owner.old.seen gc_ref.now (storage_slot first.now) count stored }
+    ensures { FillsAll H.KIND owner.old.seen owner.new.seen gc_ref.now (storage_slot first.now) count stored }
+{
+    match stored {
+        Stored::Number(number) => write_numbers(owner, gc_ref, first, count, number),
+        Stored::Ref(word) => write_references(owner, gc_ref, first, count, word),
+    }
+}
+
+/// Writes one value into all elements of a new array, of which there are so many.
+fn write_same<H: GcHeap, D: Drop>(
+    owner: &mut HeapOwner<H, D>,
+    interned: &InternedValues,
+    gc_ref: &VMGcRef,
+    ty: VMSharedTypeIndex,
+    count: u32,
+    value: RawValue,
+)
+    requires idle { owner.old.seen.idle ≡ true }
+    requires can { CanFill H.KIND owner.old.seen gc_ref.now ty (SameFits (ids_of interned.now) value count) }
+    ensures { FillsNew H.KIND owner.old.seen owner.new.seen gc_ref.now ty
+        (SameFits (ids_of interned.now) value count) (SameStands (ids_of interned.now) value) }
+{
+    if count == 0 {
+        return;
+    }
+    owner.is_ready();
+    let first = slot_at(owner.types(), H::KIND, ty, 0);
+    let stored = stored_value(interned, owner.scoped(), owner.owned(), &value);
+    write_elements(owner, gc_ref, &first, count, stored);
+}
+
+/// Writes the elements of a new array of bytes.
+fn write_bytes<H: GcHeap, D: Drop>(
+    owner: &mut HeapOwner<H, D>,
+    gc_ref: &VMGcRef,
+    ty: VMSharedTypeIndex,
+    bytes: &[u8],
+)
+    requires idle { owner.old.seen.idle ≡ true }
+    requires can { CanFill H.KIND owner.old.seen gc_ref.now ty (BytesFit bytes.now) }
+    ensures { FillsNew H.KIND owner.old.seen owner.new.seen gc_ref.now ty (BytesFit bytes.now) (BytesStand bytes.now) }
+{
+    if bytes.is_empty() {
+        return;
+    }
+    owner.is_ready();
+    let first = slot_at(owner.types(), H::KIND, ty, 0);
+    owner.write_number(gc_ref, first.offset, bytes);
+}
+
+/// Gives a new object of that request its values, and an exception its tag.
+#[inline(always)]
+pub fn fill<H: GcHeap, D: Drop>(
+    owner: &mut HeapOwner<H, D>,
+    interned: &InternedValues,
+    gc_ref: &VMGcRef,
+    request: &Place,
+    contents: Contents<'_>,
+)
+    requires idle { owner.old.seen.idle ≡ true }
+    requires can { CanFill H.KIND owner.old.seen gc_ref.now (asked_type request.now) (ContentsFit (ids_of interned.now) request.now contents) }
+    requires kind { IsOfAskedKind request.now owner.old.seen.heap gc_ref.now }
+    ensures { FillsAs H.KIND (front_of H.KIND request.now) owner.old.seen owner.new.seen gc_ref.now (asked_type request.now)
+        (ContentsFit (ids_of interned.now) request.now contents.entry) (ContentsStand (ids_of interned.now) contents.entry) }
+{
+    match *request {
+        Place::Struct(ty) => match contents {
+            Contents::Each(values) => write_values(owner, interned, gc_ref, ty, values),
+            Contents::Same(_) => unreachable!(),
+            Contents::Bytes(_) => unreachable!(),
+        },
+        Place::Array(ty, count) => match contents {
+            Contents::Each(values) => write_values(owner, interned, gc_ref, ty, values),
+            Contents::Same(value) => write_same(owner, interned, gc_ref, ty, count, *value),
+            Contents::Bytes(bytes) => write_bytes(owner, gc_ref, ty, bytes),
+        },
+        Place::Exn(ty, tag) => match contents {
+            Contents::Each(values) => {
+                write_tag(owner, gc_ref, tag);
+                write_values(owner, interned, gc_ref, ty, values);
+            }
+            Contents::Same(_) => unreachable!(),
+            Contents::Bytes(_) => unreachable!(),
+        },
+    }
+}
