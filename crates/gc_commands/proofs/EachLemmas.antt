@@ -2,7 +2,7 @@
 use Rattle.std.proofs.Common.{◌≡◌, ℕ, ◌+◌, ◌<◌, ◌≤◌, List, [], ◌∷◌, ◌++◌, drop, length, get_or, Option, Some, None, refl, sym, ap, ◌∙◌, append_assoc, add-one, drop-cons, suc}
 use Rattle.std.specs.Option.{option_map}
 use Rattle.std.proofs.lemmas.List.{append-nil, drop_all}
-use Rattle.gc_commands.specs.TypeWords.{each_of, onto}
+use Rattle.gc_commands.specs.TypeWords.{each_of, with_first}
 
 module _ {B : Type 0} where
   -- some things in front of others, where these are there
@@ -13,7 +13,7 @@ module _ {B : Type 0} where
   in_front-nil None = refl
   in_front-nil (Some ys) = refl
 
-  in_front-onto : (xs : List B) (x : B) (o : Option (List B)) → in_front xs (onto (Some x) o) ≡ in_front (xs ++ x ∷ []) o
+  in_front-onto : (xs : List B) (x : B) (o : Option (List B)) → in_front xs (with_first (Some x) o) ≡ in_front (xs ++ x ∷ []) o
   in_front-onto xs x None = refl
   in_front-onto xs x (Some ys) = ap Some (sym (append_assoc xs (x ∷ []) ys))
 
@@ -26,13 +26,13 @@ module _ {A B : Type 0} (read : A → Option B) (words : List A) where
   spelled_none = in_front-nil (each_of read words)
 
   module _ (xs : List B) (i : ℕ) (w : A) (so_far : SpelledSoFar xs i) (below : i < length words) (is : w ≡ get_or words i w) where
-    spelled_here : (o : Option B) → read w ≡ o → each_of read words ≡ in_front xs (onto o (each_of read (drop (i + 1) words)))
+    spelled_here : (o : Option B) → read w ≡ o → each_of read words ≡ in_front xs (with_first o (each_of read (drop (i + 1) words)))
     spelled_here o e =
         so_far
         ∙ ap (λ (ws : List A). in_front xs (each_of read ws)) (drop-cons words i w below)
-        ∙ ap (λ (x : A). in_front xs (onto (read x) (each_of read (drop (suc i) words)))) (sym is)
-        ∙ ap (λ (n : ℕ). in_front xs (onto (read w) (each_of read (drop n words)))) (sym (add-one i))
-        ∙ ap (λ (x : Option B). in_front xs (onto x (each_of read (drop (i + 1) words)))) e
+        ∙ ap (λ (x : A). in_front xs (with_first (read x) (each_of read (drop (suc i) words)))) (sym is)
+        ∙ ap (λ (n : ℕ). in_front xs (with_first (read w) (each_of read (drop n words)))) (sym (add-one i))
+        ∙ ap (λ (x : Option B). in_front xs (with_first x (each_of read (drop (i + 1) words)))) e
 
     -- one more was read
     pub spelled_more : (x : B) → read w ≡ Some x → SpelledSoFar (xs ++ x ∷ []) (i + 1)

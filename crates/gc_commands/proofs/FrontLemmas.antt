@@ -6,7 +6,7 @@ use Rattle.std.proofs.lemmas.Fmt.{decimal_injective}
 use Rattle.std.proofs.lemmas.List.{append_cancel_left}
 use Rattle.gc_commands.specs.declared.command.FieldWord.{FieldWord}
 use Rattle.gc_commands.specs.declared.command.StorageWord.{StorageWord}
-use Rattle.gc_commands.specs.Parts.{IsBehind, IsFront, ReadsSupertype, first_letter}
+use Rattle.gc_commands.specs.Parts.{IsBehind, HasFront, ReadsSupertype, first_letter}
 use Rattle.gc_commands.specs.Spelling.{declared_words, supertype_words, type_count}
 use Rattle.gc_commands.specs.Words.{field_text, mutability_text, storage_text}
 
@@ -58,7 +58,7 @@ front_read true s words mid rest at e = at ∙ ap (λ ws. codes "final" ∷ ws) 
 front_read false s words mid rest at e = sym at.0 ∙ e
 
 pub front_some : (f : Bool) (s : Option ℕ) (words mid rest : List (List ℕ)) → MatchBool f (words ≡ codes "final" ∷ mid) ((mid ≡ words) × ((others : List (List ℕ)) → ¬ (words ≡ codes "final" ∷ others)))
-    → ReadsSupertype mid (Some s) rest → IsFront words (f, s) rest
+    → ReadsSupertype mid (Some s) rest → HasFront words (f, s) rest
 front_some f s words mid rest at read = record {
   fits = read.0;
   read = front_read f s words mid rest at read.1;
@@ -82,7 +82,7 @@ supertype_is (Some n) rest fits behind = supertype_present (supertype_words (Som
 pub one_front : (f g : Bool) (s t : Option ℕ) (rest others : List (List ℕ)) → IfSome s (λ n. n < type_count) → IfSome t (λ n. n < type_count) → IsBehind rest → IsBehind others
     → declared_words f s rest ≡ declared_words g t others → (f ≡ g) × (s ≡ t) × (rest ≡ others)
 one_front f g s t rest others s_fits t_fits behind other_behind e =
-    let front : IsFront (declared_words f s rest) (f, s) rest = front_some f s (declared_words f s rest) (supertype_words s ++ rest) rest (final_is f s rest behind) (supertype_is s rest s_fits behind) in
+    let front : HasFront (declared_words f s rest) (f, s) rest = front_some f s (declared_words f s rest) (supertype_words s ++ rest) rest (final_is f s rest behind) (supertype_is s rest s_fits behind) in
     front.only g t others t_fits other_behind e
 
 field_letter : (m : Bool) (s : StorageWord) → (slice_index (mutability_text m ++ storage_text s) 0 ≢ 102) × (slice_index (mutability_text m ++ storage_text s) 0 ≢ 115)

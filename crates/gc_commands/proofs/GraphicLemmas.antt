@@ -17,7 +17,7 @@ use Rattle.gc_commands.specs.declared.command.ValueWord.TheVariants as value
 use Rattle.gc_commands.specs.declared.command.StorageWord.{StorageWord}
 use Rattle.gc_commands.specs.declared.command.StorageWord.TheVariants as storage
 use Rattle.gc_commands.specs.Spelling.{FitsField, FitsHeap, FitsOperand, FitsStorage, FitsValue, declared_words, final_words, into_words, supertype_words, type_count}
-use Rattle.gc_commands.specs.Words.{byte_text, bytes_text, field_text, heap_text, hex_digit, hex_digits, mutability_text, null_mark, operand_text, storage_text, value_text}
+use Rattle.gc_commands.specs.Words.{byte_text, bytes_text, field_text, heap_text, hex_digit, hex_digits, mutability_text, null_mark, operand_text, storage_text, value_type_text}
 use Rattle.gc_commands.proofs.HexReadLemmas.{digit_graphic}
 use Rattle.gc_commands.proofs.NumberLemmas.{own}
 
@@ -92,7 +92,7 @@ word_mark : (nullable : Bool) → IsWord (null_mark nullable)
 word_mark true = tt
 word_mark false = word_text (codes "!") refl
 
-pub word_value : (value : ValueWord) → FitsValue value → IsWord (value_text value)
+pub word_value : (value : ValueWord) → FitsValue value → IsWord (value_type_text value)
 word_value value.I32 fits = word_text (codes "i32") refl
 word_value value.I64 fits = word_text (codes "i64") refl
 word_value value.F32 fits = word_text (codes "f32") refl

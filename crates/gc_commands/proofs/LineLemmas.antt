@@ -10,7 +10,7 @@ use Rattle.gc_commands.specs.declared.command.Command.{Command}
 use Rattle.gc_commands.specs.declared.command.Command.TheVariants as command
 use Rattle.gc_commands.specs.declared.form.Form.{Form}
 use Rattle.gc_commands.specs.declared.form.Form.TheVariants as form
-use Rattle.gc_commands.specs.Forms.{form_of, name_of}
+use Rattle.gc_commands.specs.Forms.{command_form, name_of}
 use Rattle.gc_commands.specs.Spelling.{FitsCommand, IsCommandOf, Spells, max_line, spelling, words_of}
 use Rattle.gc_commands.proofs.FormLemmas.{has_form, words_by_form}
 use Rattle.gc_commands.proofs.GraphicLemmas.{AreWords, IsWord, word_text}
@@ -21,7 +21,7 @@ word_name : (f : Form) → IsWord (name_of f)
 word_name form.Struct = word_text (codes "struct") refl
 word_name f = word_text (name_of f) refl
 
-words_fit_by : (c : Command) → FitsCommand c → (f : Form) → form_of c ≡ Some f → AreWords (words_of c)
+words_fit_by : (c : Command) → FitsCommand c → (f : Form) → command_form c ≡ Some f → AreWords (words_of c)
 words_fit_by c fits f e = subst AreWords (sym (words_by_form f c e)) (word_name f, operands_fit f c (fits, e))
 
 -- the words of a command are words

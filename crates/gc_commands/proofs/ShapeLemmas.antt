@@ -11,8 +11,8 @@ use Rattle.gc_commands.specs.declared.command.ValueWord.{ValueWord}
 use Rattle.gc_commands.specs.declared.form.Form.{Form}
 use Rattle.gc_commands.specs.declared.form.Form.TheVariants as form
 use Rattle.gc_commands.specs.Parts.{FitPlace, FitRegisterAndNumber, FitRegisterAndWide, FitRegisters, FitWrite, number_words, pair_words, place_words, write_words}
-use Rattle.gc_commands.specs.Spelling.{FitsField, FitsOperand, FitsValue, IsOf, into_words, operands_of, type_count}
-use Rattle.gc_commands.specs.Words.{field_text, operand_text, value_text}
+use Rattle.gc_commands.specs.Spelling.{FitsField, FitsOperand, FitsValue, IsOfForm, into_words, operands_of, type_count}
+use Rattle.gc_commands.specs.Words.{field_text, operand_text, value_type_text}
 use Rattle.gc_commands.proofs.FormLemmas.{FitArray, FitBytes, FitNew, FitNewArr, FitNewExn, FitNothing, FitRegister, FitStruct, FitValues, FitWide, IsMade, array_words, bytes_words, make_bytes, new_arr_words, new_exn_words, new_words, no_words, struct_words, values_words}
 use Rattle.gc_commands.proofs.FormLemmas.{only_struct, only_array, only_exn, only_new, only_new_exn, only_new_arr, only_fixed, only_bytes, only_host, only_i31, only_field, only_elem, only_len, only_host_number, only_set_field, only_set_elem, only_eq, only_enter, only_leave, only_push, only_pop, only_store, only_load, only_set_global, only_get_global, only_own, only_root, only_unroot, only_throw, only_take, only_gc, only_gc_drop, only_gc_inc, only_grow, only_cap}
 use Rattle.gc_commands.proofs.FrontLemmas.{field_behind, fields_behind, one_front}
@@ -119,10 +119,10 @@ words_write : (p : ℕ × ℕ × Operand) → FitWrite p → AreWords (write_wor
 words_write p fits = (word_16 p.0 fits.0, (word_32 p.1 fits.1, (word_operand p.2 fits.2, tt)))
 
 one_values : (p q : List ValueWord) → FitValues p → FitValues q → values_words p ≡ values_words q → p ≡ q
-one_values p q p_fits q_fits e = one_list FitsValue value_text one_value p q p_fits q_fits e
+one_values p q p_fits q_fits e = one_list FitsValue value_type_text one_value p q p_fits q_fits e
 
 words_values : (p : List ValueWord) → FitValues p → AreWords (values_words p)
-words_values p fits = words_map FitsValue value_text word_value p fits
+words_values p fits = words_map FitsValue value_type_text word_value p fits
 
 one_new : (p q : ℕ × ℕ × List Operand) → FitNew p → FitNew q → new_words p ≡ new_words q → p ≡ q
 one_new p q p_fits q_fits e = three p q (register p.0 q.0 p_fits.0 q_fits.0 (at 0 (new_words p) (new_words q) e)) (type_index p.1 q.1 p_fits.1 q_fits.1 (at 1 (new_words p) (new_words q) e)) (one_list FitsOperand operand_text one_operand p.2 q.2 p_fits.2 q_fits.2 (ap (drop 2) e))
@@ -176,7 +176,7 @@ record Shape (f : Form) : Type 1 where
   Fits : Parts → Type 0
   text : Parts → List (List ℕ)
   make : Parts → Command
-  only : (c : Command) → IsOf f c → IsMade Fits text make c
+  only : (c : Command) → IsOfForm f c → IsMade Fits text make c
   one : (p q : Parts) → Fits p → Fits q → text p ≡ text q → p ≡ q
   words : (p : Parts) → Fits p → AreWords (text p)
 
@@ -218,14 +218,14 @@ shape form.Grow = record { Parts = ℕ; Fits = FitWide; text = number_words; mak
 shape form.Cap = record { Parts = Unit {0}; Fits = FitNothing; text = no_words; make = λ u. command.Cap; only = only_cap; one = one_nothing; words = words_nothing }
 
 -- the words behind the name of a command are words
-pub operands_fit : (f : Form) (c : Command) → IsOf f c → AreWords (operands_of c)
+pub operands_fit : (f : Form) (c : Command) → IsOfForm f c → AreWords (operands_of c)
 operands_fit f c of =
     let s = shape f in
     let m = s.only c of in
     subst AreWords (sym m.spelled) (s.words m.parts m.fits)
 
 -- no two commands of a form have the same words
-pub one_of_form : (f : Form) (c d : Command) → IsOf f c → IsOf f d → operands_of c ≡ operands_of d → c ≡ d
+pub one_of_form : (f : Form) (c d : Command) → IsOfForm f c → IsOfForm f d → operands_of c ≡ operands_of d → c ≡ d
 one_of_form f c d c_of d_of e =
     let s = shape f in
     let m = s.only c c_of in

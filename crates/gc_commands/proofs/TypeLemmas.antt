@@ -16,7 +16,7 @@ use Rattle.gc_commands.specs.declared.command.StorageWord.{StorageWord}
 use Rattle.gc_commands.specs.declared.command.StorageWord.TheVariants as storage
 use Rattle.gc_commands.specs.Reading.{Reads}
 use Rattle.gc_commands.specs.Spelling.{FitsField, FitsHeap, FitsNamed, FitsReference, FitsStorage, FitsValue}
-use Rattle.gc_commands.specs.Words.{field_text, heap_text, mutability_text, null_mark, storage_text, value_text}
+use Rattle.gc_commands.specs.Words.{field_text, heap_text, mutability_text, null_mark, storage_text, value_type_text}
 use Rattle.gc_commands.proofs.NumberLemmas.{own}
 
 -- texts that differ in one of these letters
@@ -105,7 +105,7 @@ not_v128 : (h : HeapWord) (n : Bool) → heap_text h ++ null_mark n ≡ codes "v
 not_v128 heap.Any n e = differ _ _ (λ a b c d. omega arith) e
 not_v128 h n e = differ _ _ (λ a b c d. omega arith) e
 
-pub one_value : (x y : ValueWord) → FitsValue x → FitsValue y → value_text x ≡ value_text y → x ≡ y
+pub one_value : (x y : ValueWord) → FitsValue x → FitsValue y → value_type_text x ≡ value_type_text y → x ≡ y
 one_value value.I32 value.I32 x_fits y_fits e = refl
 one_value value.I64 value.I64 x_fits y_fits e = refl
 one_value value.F32 value.F32 x_fits y_fits e = refl
@@ -131,11 +131,11 @@ wide_reference heap.Any n e = (omega arith, omega arith)
 wide_reference h n e = (omega arith, omega arith)
 
 -- a value type that begins with an `i` has 3 to 6 behind it
-wide : (v : ValueWord) → get_or (value_text v) 0 0 ≡ 105 → (51 ≤ get_or (value_text v) 1 0) × (get_or (value_text v) 1 0 ≤ 54)
+wide : (v : ValueWord) → get_or (value_type_text v) 0 0 ≡ 105 → (51 ≤ get_or (value_type_text v) 1 0) × (get_or (value_type_text v) 1 0 ≤ 54)
 wide (value.Ref h n) e = wide_reference h n e
 wide v e = (omega arith, omega arith)
 
-not_packed : (v : ValueWord) (t : List ℕ) → get_or t 0 0 ≡ 105 → (get_or t 1 0 < 51) ⊎ (54 < get_or t 1 0) → value_text v ≡ t → ⊥
+not_packed : (v : ValueWord) (t : List ℕ) → get_or t 0 0 ≡ 105 → (get_or t 1 0 < 51) ⊎ (54 < get_or t 1 0) → value_type_text v ≡ t → ⊥
 not_packed v t first second e =
     let at = wide v (ap (λ w. get_or w 0 0) e ∙ first) in
     let same = ap (λ w. get_or w 1 0) e in
@@ -167,20 +167,20 @@ one_field x y x_fits y_fits e =
     ap (λ m. field_with m x.storage) same.0 ∙ ap (field_with y.mutable) same.1
 
 -- where the name in front of the mark is none, no reference is spelled
-pub no_marked : (word name : List ℕ) → word ≡ name ++ codes "!" → ((h : HeapWord) → FitsHeap h → name ≡ heap_text h → ⊥) → (x : ValueWord) → FitsReference x → word ≡ value_text x → ⊥
+pub no_marked : (word name : List ℕ) → word ≡ name ++ codes "!" → ((h : HeapWord) → FitsHeap h → name ≡ heap_text h → ⊥) → (x : ValueWord) → FitsReference x → word ≡ value_type_text x → ⊥
 no_marked word name at none (value.Ref h true) fits e = no_mark h fits name (sym (append-nil (heap_text h)) ∙ sym e ∙ at)
 no_marked word name at none (value.Ref h false) fits e = none h fits (append_cancel_right name (heap_text h) (codes "!") (sym at ∙ e))
 no_marked word name at none x fits e = absurd fits
 
 -- nor where there is no mark, and the word is no name
 pub no_unmarked : (word : List ℕ) → ((front : List ℕ) → word ≡ front ++ codes "!" → ⊥) → ((h : HeapWord) → FitsHeap h → word ≡ heap_text h → ⊥) → (x : ValueWord) → FitsReference x
-    → word ≡ value_text x → ⊥
+    → word ≡ value_type_text x → ⊥
 no_unmarked word unmarked none (value.Ref h true) fits e = none h fits (e ∙ append-nil (heap_text h))
 no_unmarked word unmarked none (value.Ref h false) fits e = unmarked (heap_text h) e
 no_unmarked word unmarked none x fits e = absurd fits
 
 none_value : (word : List ℕ) → (word ≡ codes "i32" → ⊥) → (word ≡ codes "i64" → ⊥) → (word ≡ codes "f32" → ⊥) → (word ≡ codes "f64" → ⊥) → (word ≡ codes "v128" → ⊥)
-    → ((x : ValueWord) → FitsReference x → word ≡ value_text x → ⊥) → (x : ValueWord) → FitsValue x → word ≡ value_text x → ⊥
+    → ((x : ValueWord) → FitsReference x → word ≡ value_type_text x → ⊥) → (x : ValueWord) → FitsValue x → word ≡ value_type_text x → ⊥
 none_value word a b c d f none value.I32 fits e = a e
 none_value word a b c d f none value.I64 fits e = b e
 none_value word a b c d f none value.F32 fits e = c e
@@ -190,7 +190,7 @@ none_value word a b c d f none (value.Ref h n) fits e = none (value.Ref h n) fit
 
 -- a word that spells no number type spells a reference or nothing
 pub value_read : (word : List ℕ) (r : Option ValueWord) → (word ≡ codes "i32" → ⊥) → (word ≡ codes "i64" → ⊥) → (word ≡ codes "f32" → ⊥) → (word ≡ codes "f64" → ⊥) → (word ≡ codes "v128" → ⊥)
-    → Reads FitsReference value_text word r → Reads FitsValue value_text word r
+    → Reads FitsReference value_type_text word r → Reads FitsValue value_type_text word r
 value_read word (Some (value.Ref h n)) a b c d e read = read
 value_read word (Some x) a b c d e read = absurd read.0
 value_read word None a b c d e read = none_value word a b c d e read
@@ -217,7 +217,7 @@ heap_read word (Some x) n0 n1 n2 n3 n4 n5 n6 n7 n8 n9 read = absurd read.0
 heap_read word None n0 n1 n2 n3 n4 n5 n6 n7 n8 n9 read = none_heap word n0 n1 n2 n3 n4 n5 n6 n7 n8 n9 read
 
 -- where a word spells no value and is no packed type, it spells no storage
-pub no_storage : (word : List ℕ) → (word ≡ codes "i8" → ⊥) → (word ≡ codes "i16" → ⊥) → ((v : ValueWord) → FitsValue v → word ≡ value_text v → ⊥) → (x : StorageWord) → FitsStorage x
+pub no_storage : (word : List ℕ) → (word ≡ codes "i8" → ⊥) → (word ≡ codes "i16" → ⊥) → ((v : ValueWord) → FitsValue v → word ≡ value_type_text v → ⊥) → (x : StorageWord) → FitsStorage x
     → word ≡ storage_text x → ⊥
 no_storage word small large none storage.I8 fits e = small e
 no_storage word small large none storage.I16 fits e = large e

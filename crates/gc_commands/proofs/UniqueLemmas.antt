@@ -3,13 +3,13 @@ use Rattle.std.proofs.Common.{◌≡◌, ◌==◌, ℕ, List, [], ◌∷◌, dro
 use Rattle.std.specs.List.{slice_split}
 use Rattle.gc_commands.specs.declared.command.Command.{Command}
 use Rattle.gc_commands.specs.declared.form.Form.{Form}
-use Rattle.gc_commands.specs.Forms.{form_of, name_of}
+use Rattle.gc_commands.specs.Forms.{command_form, name_of}
 use Rattle.gc_commands.specs.Spelling.{FitsCommand, Spells, operands_of, words_of, spelling}
 use Rattle.gc_commands.proofs.FormLemmas.{has_form, one_name, words_by_form}
 use Rattle.gc_commands.proofs.LineLemmas.{words_of_spelling}
 use Rattle.gc_commands.proofs.ShapeLemmas.{one_of_form}
 
-one_by_form : (f g : Form) (c d : Command) → FitsCommand c → FitsCommand d → form_of c ≡ Some f → form_of d ≡ Some g → words_of c ≡ words_of d → c ≡ d
+one_by_form : (f g : Form) (c d : Command) → FitsCommand c → FitsCommand d → command_form c ≡ Some f → command_form d ≡ Some g → words_of c ≡ words_of d → c ≡ d
 one_by_form f g c d c_fits d_fits c_form d_form e =
     let words : name_of f ∷ operands_of c ≡ name_of g ∷ operands_of d = sym (words_by_form f c c_form) ∙ e ∙ words_by_form g d d_form in
     let names = one_name f g (ap (λ (ws : List (List ℕ)). get_or ws 0 []) words) in

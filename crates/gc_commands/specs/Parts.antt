@@ -66,7 +66,7 @@ abbrev pub IsBehind : List (List ℕ) → Type 0
 IsBehind words = (first_letter words ≢ 102) × (first_letter words ≢ 115)
 
 -- the words have just this front, and what is behind it
-pub record IsFront (words : List (List ℕ)) (front : Bool × Option ℕ) (rest : List (List ℕ)) : Type 0 where
+pub record HasFront (words : List (List ℕ)) (front : Bool × Option ℕ) (rest : List (List ℕ)) : Type 0 where
   pub fits : IfSome front.1 (λ t. t < type_count)
   pub read : words ≡ declared_words front.0 front.1 rest
   pub only : (f : Bool) (t : Option ℕ) (others : List (List ℕ)) → IfSome t (λ n. n < type_count) → IsBehind others → words ≡ declared_words f t others
@@ -76,4 +76,4 @@ pub record IsFront (words : List (List ℕ)) (front : Bool × Option ℕ) (rest 
 abbrev pub ReadsFront : List (List ℕ) → Option (Bool × Option ℕ) → List (List ℕ) → Type 0
 ReadsFront words None rest =
     (f : Bool) (t : Option ℕ) (others : List (List ℕ)) → IfSome t (λ n. n < type_count) → IsBehind others → ¬ (words ≡ declared_words f t others)
-ReadsFront words (Some front) rest = IsFront words front rest
+ReadsFront words (Some front) rest = HasFront words front rest

@@ -15,8 +15,8 @@ use Rattle.gc_commands.specs.declared.command.HeapWord.TheVariants as heap
 use Rattle.gc_commands.specs.declared.command.StorageWord.{StorageWord}
 use Rattle.gc_commands.specs.declared.command.StorageWord.TheVariants as storage
 use Rattle.gc_commands.specs.declared.form.Form.{Form}
-use Rattle.gc_commands.specs.Forms.{form_of, name_of}
-use Rattle.gc_commands.specs.Words.{bytes_text, field_text, operand_text, value_text}
+use Rattle.gc_commands.specs.Forms.{command_form, name_of}
+use Rattle.gc_commands.specs.Words.{bytes_text, field_text, operand_text, value_type_text}
 
 -- a line may have this many bytes without its line feed
 abbrev pub max_line : ℕ
@@ -48,7 +48,7 @@ abbrev pub operands_of : Command → List (List ℕ)
 operands_of command.Bad = []
 operands_of (command.Struct is_final supertype fields) = declared_words is_final supertype (map field_text fields)
 operands_of (command.Array is_final supertype elem) = declared_words is_final supertype (field_text elem ∷ [])
-operands_of (command.Exn params) = map value_text params
+operands_of (command.Exn params) = map value_type_text params
 operands_of (command.New d t values) = decimal d ∷ decimal t ∷ map operand_text values
 operands_of (command.NewExn d t tag values) = decimal d ∷ decimal t ∷ decimal tag ∷ map operand_text values
 operands_of (command.NewArr d t len value) = decimal d ∷ decimal t ∷ decimal len ∷ operand_text value ∷ []
@@ -90,7 +90,7 @@ words_with (Some form) operands = name_of form ∷ operands
 
 -- the words of a command
 abbrev pub words_of : Command → List (List ℕ)
-words_of command = words_with (form_of command) (operands_of command)
+words_of command = words_with (command_form command) (operands_of command)
 
 -- the one spelling of a command: its words with a space between two
 abbrev pub spelling : Command → List ℕ
@@ -212,8 +212,8 @@ FitsCommand (command.Grow n) = n < 2 ^ 64
 FitsCommand command.Cap = Unit {0}
 
 -- a command of this form
-abbrev pub IsOf : Form → Command → Type 0
-IsOf form command = FitsCommand command × (form_of command ≡ Some form)
+abbrev pub IsOfForm : Form → Command → Type 0
+IsOfForm form command = FitsCommand command × (command_form command ≡ Some form)
 
 -- the line spells the command
 pub record Spells (line : List ℕ) (command : Command) : Type 0 where

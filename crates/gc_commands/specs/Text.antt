@@ -27,19 +27,19 @@ refusal_text refusal.GcHeapOutOfMemory = codes "GcHeapOutOfMemory"
 refusal_text refusal.GcHeapGrowthFailed = codes "GcHeapGrowthFailed"
 refusal_text refusal.ThrownException = codes "ThrownException"
 
-abbrev pub value_text : ReplyValue → List ℕ
-value_text (value.I32 n) = codes "i32 " ++ signed_decimal n
-value_text (value.I64 n) = codes "i64 " ++ signed_decimal n
-value_text (value.F32 n) = codes "f32 " ++ hex_digits 8 n
-value_text (value.F64 n) = codes "f64 " ++ hex_digits 16 n
-value_text (value.V128 n) = codes "v128 " ++ hex_digits 32 n
-value_text value.Null = codes "null"
-value_text (value.I31 n) = codes "i31 " ++ decimal n
-value_text (value.Struct t) = codes "struct " ++ decimal t
-value_text (value.Array t) = codes "array " ++ decimal t
-value_text value.Host = codes "host"
-value_text (value.Exn t tag) = codes "exn " ++ (decimal t ++ 32 ∷ decimal tag)
-value_text value.Opaque = codes "opaque"
+abbrev pub reply_value_text : ReplyValue → List ℕ
+reply_value_text (value.I32 n) = codes "i32 " ++ signed_decimal n
+reply_value_text (value.I64 n) = codes "i64 " ++ signed_decimal n
+reply_value_text (value.F32 n) = codes "f32 " ++ hex_digits 8 n
+reply_value_text (value.F64 n) = codes "f64 " ++ hex_digits 16 n
+reply_value_text (value.V128 n) = codes "v128 " ++ hex_digits 32 n
+reply_value_text value.Null = codes "null"
+reply_value_text (value.I31 n) = codes "i31 " ++ decimal n
+reply_value_text (value.Struct t) = codes "struct " ++ decimal t
+reply_value_text (value.Array t) = codes "array " ++ decimal t
+reply_value_text value.Host = codes "host"
+reply_value_text (value.Exn t tag) = codes "exn " ++ (decimal t ++ 32 ∷ decimal tag)
+reply_value_text value.Opaque = codes "opaque"
 
 abbrev pub bool_text : Bool → List ℕ
 bool_text true = codes "true"
@@ -49,7 +49,7 @@ bool_text false = codes "false"
 abbrev pub text_of : Reply → List ℕ
 text_of reply.Done = codes "ok"
 text_of (reply.Declared t) = codes "type " ++ decimal t
-text_of (reply.Value v) = value_text v
+text_of (reply.Value v) = reply_value_text v
 text_of (reply.Length n) = codes "len " ++ decimal n
 text_of (reply.HostNumber n) = codes "data " ++ decimal n
 text_of (reply.Same same) = bool_text same

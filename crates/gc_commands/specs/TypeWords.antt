@@ -51,18 +51,18 @@ abbrev pub reference_to : Bool → HeapType → ValType
 reference_to nullable ty = val_type.Ref (record { nullable = nullable; heap_type = ty })
 
 -- the value type that a word spells; none where it names no type that it may
-abbrev pub value_of : (ℕ → Option TypeKind) → ValueWord → Option ValType
-value_of kind value.I32 = Some val_type.I32
-value_of kind value.I64 = Some val_type.I64
-value_of kind value.F32 = Some val_type.F32
-value_of kind value.F64 = Some val_type.F64
-value_of kind value.V128 = Some val_type.V128
-value_of kind (value.Ref h nullable) = option_map (reference_to nullable) (heap_of kind h)
+abbrev pub value_type_of : (ℕ → Option TypeKind) → ValueWord → Option ValType
+value_type_of kind value.I32 = Some val_type.I32
+value_type_of kind value.I64 = Some val_type.I64
+value_type_of kind value.F32 = Some val_type.F32
+value_type_of kind value.F64 = Some val_type.F64
+value_type_of kind value.V128 = Some val_type.V128
+value_type_of kind (value.Ref h nullable) = option_map (reference_to nullable) (heap_of kind h)
 
 abbrev pub storage_of : (ℕ → Option TypeKind) → StorageWord → Option StorageType
 storage_of kind storage.I8 = Some storage_type.I8
 storage_of kind storage.I16 = Some storage_type.I16
-storage_of kind (storage.Value v) = option_map (λ (ty : ValType). storage_type.ValType ty) (value_of kind v)
+storage_of kind (storage.Value v) = option_map (λ (ty : ValType). storage_type.ValType ty) (value_type_of kind v)
 
 abbrev pub mutability_of : Bool → Mutability
 mutability_of mutable = if mutable then Var else Const
@@ -72,21 +72,21 @@ abbrev pub field_of : (ℕ → Option TypeKind) → FieldWord → Option FieldTy
 field_of kind f = option_map (λ (ty : StorageType). record { mutability = mutability_of f.mutable; element_type = ty }) (storage_of kind f.storage)
 
 -- a list with one more in front, where both are there
-abbrev pub onto : {A : Type 0} → Option A → Option (List A) → Option (List A)
-onto None rest = None
-onto (Some x) None = None
-onto (Some x) (Some xs) = Some (x ∷ xs)
+abbrev pub with_first : {A : Type 0} → Option A → Option (List A) → Option (List A)
+with_first None rest = None
+with_first (Some x) None = None
+with_first (Some x) (Some xs) = Some (x ∷ xs)
 
 -- what words spell, in order, where each spells something
 abbrev pub each_of : {A B : Type 0} → (A → Option B) → List A → Option (List B)
 each_of read [] = Some []
-each_of read (w ∷ ws) = onto (read w) (each_of read ws)
+each_of read (w ∷ ws) = with_first (read w) (each_of read ws)
 
 abbrev pub fields_of : (ℕ → Option TypeKind) → List FieldWord → Option (List FieldType)
 fields_of kind words = each_of (field_of kind) words
 
 abbrev pub values_of : (ℕ → Option TypeKind) → List ValueWord → Option (List ValType)
-values_of kind words = each_of (value_of kind) words
+values_of kind words = each_of (value_type_of kind) words
 
 -- the struct type, the array type and the exception type that a declaration spells, among these types; none where some word names no type that
 -- it may

@@ -49,18 +49,18 @@ abbrev pub null_mark : Bool → List ℕ
 null_mark true = []
 null_mark false = codes "!"
 
-abbrev pub value_text : ValueWord → List ℕ
-value_text value.I32 = codes "i32"
-value_text value.I64 = codes "i64"
-value_text value.F32 = codes "f32"
-value_text value.F64 = codes "f64"
-value_text value.V128 = codes "v128"
-value_text (value.Ref h nullable) = heap_text h ++ null_mark nullable
+abbrev pub value_type_text : ValueWord → List ℕ
+value_type_text value.I32 = codes "i32"
+value_type_text value.I64 = codes "i64"
+value_type_text value.F32 = codes "f32"
+value_type_text value.F64 = codes "f64"
+value_type_text value.V128 = codes "v128"
+value_type_text (value.Ref h nullable) = heap_text h ++ null_mark nullable
 
 abbrev pub storage_text : StorageWord → List ℕ
 storage_text storage.I8 = codes "i8"
 storage_text storage.I16 = codes "i16"
-storage_text (storage.Value v) = value_text v
+storage_text (storage.Value v) = value_type_text v
 
 -- mutable or constant
 abbrev pub mutability_text : Bool → List ℕ

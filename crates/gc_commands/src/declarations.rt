@@ -7,8 +7,8 @@ ghost use Rattle.std.specs.Option.{option_map};
 ghost use Rattle.gc_commands.specs.declared.form.Form.TheVariants as form;
 ghost use Rattle.gc_commands.specs.Parts.{ReadsFront, ReadsSupertype};
 ghost use Rattle.gc_commands.specs.Reading.{Reads, ReadsFirst};
-ghost use Rattle.gc_commands.specs.Spelling.{FitsField, FitsValue, IsOf, operands_of};
-ghost use Rattle.gc_commands.specs.Words.{field_text, value_text};
+ghost use Rattle.gc_commands.specs.Spelling.{FitsField, FitsValue, IsOfForm, operands_of};
+ghost use Rattle.gc_commands.specs.Words.{field_text, value_type_text};
 
 use crate::command::{Command, FieldWord, FieldWords, ValueWord, ValueWords};
 use crate::numbers::type_of;
@@ -19,7 +19,7 @@ use std::alloc::{AllocError, Global};
 
 /// The words behind `struct`: `final`, a supertype, and any number of fields.
 pub(crate) fn read_struct(alloc: Global, words: &mut Words) -> Result<Option<Command>, AllocError>
-    ensures { IfOk result (λ command. Reads (IsOf form.Struct) operands_of words.old command) }
+    ensures { IfOk result (λ command. Reads (IsOfForm form.Struct) operands_of words.old command) }
 {
     let Some((is_final, supertype)) = read_front(words) else {
         return Ok(None);
@@ -36,7 +36,7 @@ pub(crate) fn read_struct(alloc: Global, words: &mut Words) -> Result<Option<Com
 
 /// The words behind `array`: `final`, a supertype, and a field.
 pub(crate) fn read_array(words: &mut Words) -> Option<Command>
-    ensures { Reads (IsOf form.Array) operands_of words.old result }
+    ensures { Reads (IsOfForm form.Array) operands_of words.old result }
 {
     let (is_final, supertype) = read_front(words)?;
     let elem = read_last_field(words)?;
@@ -49,7 +49,7 @@ pub(crate) fn read_array(words: &mut Words) -> Option<Command>
 
 /// The words behind `exn`: any number of types of values.
 pub(crate) fn read_exn(alloc: Global, words: &mut Words) -> Result<Option<Command>, AllocError>
-    ensures { IfOk result (λ command. Reads (IsOf form.Exn) operands_of words.old command) }
+    ensures { IfOk result (λ command. Reads (IsOfForm form.Exn) operands_of words.old command) }
 {
     let Some(params) = read_values(alloc, words)? else {
         return Ok(None);
@@ -121,7 +121,7 @@ fn read_fields(alloc: Global, words: &mut Words) -> Result<Option<Vec<FieldWord>
 
 /// The types of values that all words spell.
 fn read_values(alloc: Global, words: &mut Words) -> Result<Option<Vec<ValueWord>>, AllocError>
-    ensures { IfOk result (λ values. Reads (AllByRecursion FitsValue) (map value_text) words.old (option_map (λ vs. vs.items) values)) }
+    ensures { IfOk result (λ values. Reads (AllByRecursion FitsValue) (map value_type_text) words.old (option_map (λ vs. vs.items) values)) }
 {
     let mut values = Vec::with_capacity(alloc, words.count())?;
     while let Some(word) = words.next() {

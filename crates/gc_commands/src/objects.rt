@@ -3,7 +3,7 @@
 ghost use Rattle.std.specs.Prelude.{IfOk};
 ghost use Rattle.gc_commands.specs.declared.form.Form.TheVariants as form;
 ghost use Rattle.gc_commands.specs.Reading.{Reads};
-ghost use Rattle.gc_commands.specs.Spelling.{IsOf, operands_of};
+ghost use Rattle.gc_commands.specs.Spelling.{IsOfForm, operands_of};
 
 use crate::command::{Command, Operands};
 use crate::hex::bytes_of;
@@ -16,7 +16,7 @@ use std::alloc::{AllocError, Global};
 
 /// The words behind `new`: a register, a type and any number of operands.
 pub(crate) fn read_new(alloc: Global, words: &mut Words) -> Result<Option<Command>, AllocError>
-    ensures { IfOk result (λ command. Reads (IsOf form.New) operands_of words.old command) }
+    ensures { IfOk result (λ command. Reads (IsOfForm form.New) operands_of words.old command) }
 {
     let Some((d, t)) = read_target(words) else {
         return Ok(None);
@@ -33,7 +33,7 @@ pub(crate) fn read_new(alloc: Global, words: &mut Words) -> Result<Option<Comman
 
 /// The words behind `newexn`: a register, a type, a tag and any number of operands.
 pub(crate) fn read_new_exn(alloc: Global, words: &mut Words) -> Result<Option<Command>, AllocError>
-    ensures { IfOk result (λ command. Reads (IsOf form.NewExn) operands_of words.old command) }
+    ensures { IfOk result (λ command. Reads (IsOfForm form.NewExn) operands_of words.old command) }
 {
     let Some((d, t)) = read_target(words) else {
         return Ok(None);
@@ -54,7 +54,7 @@ pub(crate) fn read_new_exn(alloc: Global, words: &mut Words) -> Result<Option<Co
 
 /// The words behind `newarr`: a register, a type, a length and an operand.
 pub(crate) fn read_new_arr(words: &mut Words) -> Option<Command>
-    ensures { Reads (IsOf form.NewArr) operands_of words.old result }
+    ensures { Reads (IsOfForm form.NewArr) operands_of words.old result }
 {
     let (d, t) = read_target(words)?;
     let len = read_u32(words)?;
@@ -65,7 +65,7 @@ pub(crate) fn read_new_arr(words: &mut Words) -> Option<Command>
 
 /// The words behind `fixed`: a register, a type and any number of operands.
 pub(crate) fn read_fixed(alloc: Global, words: &mut Words) -> Result<Option<Command>, AllocError>
-    ensures { IfOk result (λ command. Reads (IsOf form.Fixed) operands_of words.old command) }
+    ensures { IfOk result (λ command. Reads (IsOfForm form.Fixed) operands_of words.old command) }
 {
     let Some((d, t)) = read_target(words) else {
         return Ok(None);
@@ -82,7 +82,7 @@ pub(crate) fn read_fixed(alloc: Global, words: &mut Words) -> Result<Option<Comm
 
 /// The words behind `bytes`: two numbers, or a register, a type and bytes.
 pub(crate) fn read_bytes(alloc: Global, words: &mut Words) -> Result<Option<Command>, AllocError>
-    ensures { IfOk result (λ command. Reads (IsOf form.Bytes) operands_of words.old command) }
+    ensures { IfOk result (λ command. Reads (IsOfForm form.Bytes) operands_of words.old command) }
 {
     if let Some((r, len)) = read_register_and_number(&mut words.ahead()) {
         return Ok(Some(Command::ReadBytes { r, len }));

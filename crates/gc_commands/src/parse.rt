@@ -10,7 +10,7 @@ ghost use Rattle.std.specs.Str.{IsUtf8};
 ghost use Rattle.gc_commands.specs.declared.command.Command.{Command};
 ghost use Rattle.gc_commands.specs.Forms.{has_list};
 ghost use Rattle.gc_commands.specs.Reading.{Reads};
-ghost use Rattle.gc_commands.specs.Spelling.{FitsCommand, IsCommandOf, IsOf, operands_of, spelling};
+ghost use Rattle.gc_commands.specs.Spelling.{FitsCommand, IsCommandOf, IsOfForm, operands_of, spelling};
 
 use crate::command::Command;
 use crate::declarations::{read_array, read_exn, read_struct};
@@ -63,7 +63,7 @@ fn words_behind(behind: Option<&[u8]>) -> Option<Words>
 
 /// The command of a form that the words behind its name spell. Only a list takes memory.
 fn read_form(alloc: Global, form: Form, words: &mut Words) -> Result<Option<Command>, AllocError>
-    ensures { IfOk result (λ command. Reads (IsOf form) operands_of words.old command) }
+    ensures { IfOk result (λ command. Reads (IsOfForm form) operands_of words.old command) }
 {
     match form {
         Form::Struct => read_struct(alloc, words),
@@ -81,7 +81,7 @@ fn read_form(alloc: Global, form: Form, words: &mut Words) -> Result<Option<Comm
 // them are cleared whatever the form is.
 fn read_listless(form: Form, words: &mut Words) -> Option<Command>
     requires { has_list form ≡ false }
-    ensures { Reads (IsOf form) operands_of words.old result }
+    ensures { Reads (IsOfForm form) operands_of words.old result }
 {
     match form {
         Form::Array => read_array(words),

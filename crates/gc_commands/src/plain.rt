@@ -3,7 +3,7 @@
 ghost use Rattle.std.specs.Prelude.{◌≡◌, []};
 ghost use Rattle.gc_commands.specs.declared.form.Form.TheVariants as form;
 ghost use Rattle.gc_commands.specs.Reading.{Reads};
-ghost use Rattle.gc_commands.specs.Spelling.{IsOf, operands_of};
+ghost use Rattle.gc_commands.specs.Spelling.{IsOfForm, operands_of};
 
 use crate::command::Command;
 use crate::parts::{
@@ -14,7 +14,7 @@ use crate::words::Words;
 
 /// The words behind `host`: a register and a number.
 pub(crate) fn read_host(words: &mut Words) -> Option<Command>
-    ensures { Reads (IsOf form.Host) operands_of words.old result }
+    ensures { Reads (IsOfForm form.Host) operands_of words.old result }
 {
     let (d, n) = read_register_and_wide(words)?;
     Some(Command::Host { d, n })
@@ -22,7 +22,7 @@ pub(crate) fn read_host(words: &mut Words) -> Option<Command>
 
 /// The words behind `i31`: a register and a number.
 pub(crate) fn read_i31(words: &mut Words) -> Option<Command>
-    ensures { Reads (IsOf form.I31) operands_of words.old result }
+    ensures { Reads (IsOfForm form.I31) operands_of words.old result }
 {
     let (d, n) = read_register_and_number(words)?;
     Some(Command::I31 { d, n })
@@ -30,7 +30,7 @@ pub(crate) fn read_i31(words: &mut Words) -> Option<Command>
 
 /// The words behind `field`: a register, an index, and where the value goes.
 pub(crate) fn read_field(words: &mut Words) -> Option<Command>
-    ensures { Reads (IsOf form.Field) operands_of words.old result }
+    ensures { Reads (IsOfForm form.Field) operands_of words.old result }
 {
     let (r, i, into) = read_place(words)?;
     Some(Command::Field { r, i, into })
@@ -38,7 +38,7 @@ pub(crate) fn read_field(words: &mut Words) -> Option<Command>
 
 /// The words behind `elem`: a register, an index, and where the value goes.
 pub(crate) fn read_elem(words: &mut Words) -> Option<Command>
-    ensures { Reads (IsOf form.Elem) operands_of words.old result }
+    ensures { Reads (IsOfForm form.Elem) operands_of words.old result }
 {
     let (r, i, into) = read_place(words)?;
     Some(Command::Elem { r, i, into })
@@ -46,7 +46,7 @@ pub(crate) fn read_elem(words: &mut Words) -> Option<Command>
 
 /// The words behind `setf`: a register, an index and an operand.
 pub(crate) fn read_set_field(words: &mut Words) -> Option<Command>
-    ensures { Reads (IsOf form.SetField) operands_of words.old result }
+    ensures { Reads (IsOfForm form.SetField) operands_of words.old result }
 {
     let (r, i, value) = read_write(words)?;
     Some(Command::SetField { r, i, value })
@@ -54,7 +54,7 @@ pub(crate) fn read_set_field(words: &mut Words) -> Option<Command>
 
 /// The words behind `sete`: a register, an index and an operand.
 pub(crate) fn read_set_elem(words: &mut Words) -> Option<Command>
-    ensures { Reads (IsOf form.SetElem) operands_of words.old result }
+    ensures { Reads (IsOfForm form.SetElem) operands_of words.old result }
 {
     let (r, i, value) = read_write(words)?;
     Some(Command::SetElem { r, i, value })
@@ -62,7 +62,7 @@ pub(crate) fn read_set_elem(words: &mut Words) -> Option<Command>
 
 /// The words behind `grow`: a number.
 pub(crate) fn read_grow(words: &mut Words) -> Option<Command>
-    ensures { Reads (IsOf form.Grow) operands_of words.old result }
+    ensures { Reads (IsOfForm form.Grow) operands_of words.old result }
 {
     let n = read_last_u64(words)?;
     Some(Command::Grow { n })
@@ -70,7 +70,7 @@ pub(crate) fn read_grow(words: &mut Words) -> Option<Command>
 
 /// The words behind `len`: a register.
 pub(crate) fn read_len(words: &mut Words) -> Option<Command>
-    ensures { Reads (IsOf form.Len) operands_of words.old result }
+    ensures { Reads (IsOfForm form.Len) operands_of words.old result }
 {
     let r = read_last_register(words)?;
     Some(Command::Len { r })
@@ -78,7 +78,7 @@ pub(crate) fn read_len(words: &mut Words) -> Option<Command>
 
 /// The words behind `data`: a register.
 pub(crate) fn read_host_number(words: &mut Words) -> Option<Command>
-    ensures { Reads (IsOf form.HostNumber) operands_of words.old result }
+    ensures { Reads (IsOfForm form.HostNumber) operands_of words.old result }
 {
     let r = read_last_register(words)?;
     Some(Command::HostNumber { r })
@@ -86,7 +86,7 @@ pub(crate) fn read_host_number(words: &mut Words) -> Option<Command>
 
 /// The words behind `push`: a number of slots.
 pub(crate) fn read_push(words: &mut Words) -> Option<Command>
-    ensures { Reads (IsOf form.Push) operands_of words.old result }
+    ensures { Reads (IsOfForm form.Push) operands_of words.old result }
 {
     let slots = read_last_register(words)?;
     Some(Command::Push { slots })
@@ -94,7 +94,7 @@ pub(crate) fn read_push(words: &mut Words) -> Option<Command>
 
 /// The words behind `unroot`: an owned register.
 pub(crate) fn read_unroot(words: &mut Words) -> Option<Command>
-    ensures { Reads (IsOf form.Unroot) operands_of words.old result }
+    ensures { Reads (IsOfForm form.Unroot) operands_of words.old result }
 {
     let o = read_last_register(words)?;
     Some(Command::Unroot { o })
@@ -102,7 +102,7 @@ pub(crate) fn read_unroot(words: &mut Words) -> Option<Command>
 
 /// The words behind `throw`: a register.
 pub(crate) fn read_throw(words: &mut Words) -> Option<Command>
-    ensures { Reads (IsOf form.Throw) operands_of words.old result }
+    ensures { Reads (IsOfForm form.Throw) operands_of words.old result }
 {
     let r = read_last_register(words)?;
     Some(Command::Throw { r })
@@ -110,7 +110,7 @@ pub(crate) fn read_throw(words: &mut Words) -> Option<Command>
 
 /// The words behind `take`: a register.
 pub(crate) fn read_take(words: &mut Words) -> Option<Command>
-    ensures { Reads (IsOf form.Take) operands_of words.old result }
+    ensures { Reads (IsOfForm form.Take) operands_of words.old result }
 {
     let d = read_last_register(words)?;
     Some(Command::Take { d })
@@ -118,7 +118,7 @@ pub(crate) fn read_take(words: &mut Words) -> Option<Command>
 
 /// The words behind `eq`: two registers.
 pub(crate) fn read_eq(words: &mut Words) -> Option<Command>
-    ensures { Reads (IsOf form.Eq) operands_of words.old result }
+    ensures { Reads (IsOfForm form.Eq) operands_of words.old result }
 {
     let (r, s) = read_registers(words)?;
     Some(Command::Eq { r, s })
@@ -126,7 +126,7 @@ pub(crate) fn read_eq(words: &mut Words) -> Option<Command>
 
 /// The words behind `store`: a slot and a register.
 pub(crate) fn read_store(words: &mut Words) -> Option<Command>
-    ensures { Reads (IsOf form.Store) operands_of words.old result }
+    ensures { Reads (IsOfForm form.Store) operands_of words.old result }
 {
     let (k, r) = read_registers(words)?;
     Some(Command::Store { k, r })
@@ -134,7 +134,7 @@ pub(crate) fn read_store(words: &mut Words) -> Option<Command>
 
 /// The words behind `load`: a slot and a register.
 pub(crate) fn read_load(words: &mut Words) -> Option<Command>
-    ensures { Reads (IsOf form.Load) operands_of words.old result }
+    ensures { Reads (IsOfForm form.Load) operands_of words.old result }
 {
     let (k, d) = read_registers(words)?;
     Some(Command::Load { k, d })
@@ -142,7 +142,7 @@ pub(crate) fn read_load(words: &mut Words) -> Option<Command>
 
 /// The words behind `gset`: a global and a register.
 pub(crate) fn read_set_global(words: &mut Words) -> Option<Command>
-    ensures { Reads (IsOf form.SetGlobal) operands_of words.old result }
+    ensures { Reads (IsOfForm form.SetGlobal) operands_of words.old result }
 {
     let (g, r) = read_registers(words)?;
     Some(Command::SetGlobal { g, r })
@@ -150,7 +150,7 @@ pub(crate) fn read_set_global(words: &mut Words) -> Option<Command>
 
 /// The words behind `gget`: a global and a register.
 pub(crate) fn read_get_global(words: &mut Words) -> Option<Command>
-    ensures { Reads (IsOf form.GetGlobal) operands_of words.old result }
+    ensures { Reads (IsOfForm form.GetGlobal) operands_of words.old result }
 {
     let (g, d) = read_registers(words)?;
     Some(Command::GetGlobal { g, d })
@@ -158,7 +158,7 @@ pub(crate) fn read_get_global(words: &mut Words) -> Option<Command>
 
 /// The words behind `own`: an owned register and a register.
 pub(crate) fn read_own(words: &mut Words) -> Option<Command>
-    ensures { Reads (IsOf form.Own) operands_of words.old result }
+    ensures { Reads (IsOfForm form.Own) operands_of words.old result }
 {
     let (o, r) = read_registers(words)?;
     Some(Command::Own { o, r })
@@ -166,7 +166,7 @@ pub(crate) fn read_own(words: &mut Words) -> Option<Command>
 
 /// The words behind `root`: a register and an owned register.
 pub(crate) fn read_root(words: &mut Words) -> Option<Command>
-    ensures { Reads (IsOf form.Root) operands_of words.old result }
+    ensures { Reads (IsOfForm form.Root) operands_of words.old result }
 {
     let (d, o) = read_registers(words)?;
     Some(Command::Root { d, o })

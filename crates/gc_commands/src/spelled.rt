@@ -2,7 +2,7 @@
 
 ghost use Rattle.std.specs.Prelude.{◌≡◌, ◌++◌, ◌∷◌, [], codes, map, OnOk, string_bytes};
 ghost use Rattle.gc_commands.specs.Spelling.{IsDeclaring, final_words, spelling, supertype_words};
-ghost use Rattle.gc_commands.specs.Words.{field_text, heap_text, mutability_text, null_mark, spaced, storage_text, value_text};
+ghost use Rattle.gc_commands.specs.Words.{field_text, heap_text, mutability_text, null_mark, spaced, storage_text, value_type_text};
 
 use crate::command::{Command, FieldWord, HeapWord, StorageWord, ValueWord};
 use std::alloc::AllocError;
@@ -91,7 +91,7 @@ fn push_fields(text: &mut String, fields: &[FieldWord]) -> Result<(), AllocError
 
 /// Appends types of values, each behind a space.
 fn push_values(text: &mut String, values: &[ValueWord]) -> Result<(), AllocError>
-    ensures { OnOk result (string_bytes text.new ≡ string_bytes text.old ++ spaced (map value_text values.now)) }
+    ensures { OnOk result (string_bytes text.new ≡ string_bytes text.old ++ spaced (map value_type_text values.now)) }
 {
     for value in values {
         text.push_str(" ")?;
@@ -121,7 +121,7 @@ fn push_storage(text: &mut String, storage: &StorageWord) -> Result<(), AllocErr
 
 /// Appends the word of a value type.
 fn push_value(text: &mut String, value: &ValueWord) -> Result<(), AllocError>
-    ensures { OnOk result (string_bytes text.new ≡ string_bytes text.old ++ value_text value.now) }
+    ensures { OnOk result (string_bytes text.new ≡ string_bytes text.old ++ value_type_text value.now) }
 {
     match value {
         ValueWord::I32 => text.push_str("i32"),

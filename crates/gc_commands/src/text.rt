@@ -1,7 +1,7 @@
 //! Writes the reply to a command.
 
 ghost use Rattle.std.specs.Prelude.{◌≡◌, ℕ, List, ◌++◌, ◌≤◌, codes, IfOk, IfSome, OnOk, string_bytes};
-ghost use Rattle.gc_commands.specs.Text.{bool_text, refusal_text, text_of, value_text};
+ghost use Rattle.gc_commands.specs.Text.{bool_text, refusal_text, text_of, reply_value_text};
 ghost use Rattle.gc_commands.specs.Words.{bytes_text, hex_digits};
 
 use crate::hex::{push_bytes, push_hex};
@@ -62,7 +62,7 @@ fn without_feed(line: &str) -> &str
 
 /// Appends the text of a value.
 fn push_value(text: &mut String, value: &ReplyValue) -> Result<(), AllocError>
-    ensures { OnOk result (string_bytes text.new ≡ string_bytes text.old ++ value_text value.now) }
+    ensures { OnOk result (string_bytes text.new ≡ string_bytes text.old ++ reply_value_text value.now) }
 {
     match value {
         ReplyValue::I32(n) => write!(text, "i32 {n}"),

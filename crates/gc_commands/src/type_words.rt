@@ -2,7 +2,7 @@
 //! indexes, and the type that it declares by the next one; `own` is that type's kind.
 
 ghost use Rattle.std.specs.Prelude.{◌≡◌, ◌<◌, ◌≤◌, ◌↔◌, length, IsTrue, None, IfOk, IfSome, IfNone};
-ghost use Rattle.gc_commands.specs.TypeWords.{kinds_with, named_type, heap_of, value_of, storage_of, field_of, fields_of, values_of};
+ghost use Rattle.gc_commands.specs.TypeWords.{kinds_with, named_type, heap_of, value_type_of, storage_of, field_of, fields_of, values_of};
 
 use crate::command::{FieldWord, HeapWord, StorageWord, ValueWord};
 use gc_types::{
@@ -85,7 +85,7 @@ fn heap_of(types: &Types, own: TypeKind, word: &HeapWord) -> Option<HeapType>
 
 /// The value type that a word spells.
 fn value_of(types: &Types, own: TypeKind, word: &ValueWord) -> Option<ValType>
-    ensures { result ≡ value_of (kinds_with types.now.declarations own) word.now }
+    ensures { result ≡ value_type_of (kinds_with types.now.declarations own) word.now }
 {
     match word {
         ValueWord::I32 => Some(ValType::I32),

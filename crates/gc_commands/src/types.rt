@@ -2,7 +2,7 @@
 
 ghost use Rattle.gc_commands.specs.Reading.{Reads};
 ghost use Rattle.gc_commands.specs.Spelling.{FitsField, FitsHeap, FitsNamed, FitsReference, FitsStorage, FitsValue};
-ghost use Rattle.gc_commands.specs.Words.{field_text, heap_text, storage_text, value_text};
+ghost use Rattle.gc_commands.specs.Words.{field_text, heap_text, storage_text, value_type_text};
 
 use crate::command::{FieldWord, HeapWord, StorageWord, ValueWord};
 use crate::numbers::type_of;
@@ -38,7 +38,7 @@ fn storage_of(word: &str) -> Option<StorageWord>
 
 /// The value type that a word spells.
 pub(crate) fn value_of(word: &str) -> Option<ValueWord>
-    ensures { Reads FitsValue value_text word.now result }
+    ensures { Reads FitsValue value_type_text word.now result }
 {
     match word {
         "i32" => Some(ValueWord::I32),
@@ -52,7 +52,7 @@ pub(crate) fn value_of(word: &str) -> Option<ValueWord>
 
 /// The type of references that a word spells: with a mark behind it where none of them is null.
 fn reference_of(word: &str) -> Option<ValueWord>
-    ensures { Reads FitsReference value_text word.now result }
+    ensures { Reads FitsReference value_type_text word.now result }
 {
     match word.strip_suffix('!') {
         Some(name) => Some(ValueWord::Ref {

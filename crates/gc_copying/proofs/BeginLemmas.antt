@@ -8,14 +8,14 @@ use Rattle.gc_memory.proofs.ListLemmas.{sum_over-same}
 use Rattle.gc_memory.proofs.ChainLemmas.{Chain-sum}
 use Rattle.gc_heap.specs.Content.{half_of}
 use Rattle.gc_copying.specs.declared.space.Space.{Space}
-use Rattle.gc_copying.specs.Spaces.{half_first, half_end, skipped}
-use Rattle.gc_copying.specs.CopyWords.{size_at}
+use Rattle.gc_copying.specs.Spaces.{half_first, half_end, half_skipped}
 use Rattle.gc_copying.specs.CopyStart.{From, IsFrom}
-use Rattle.gc_copying.specs.CopyMiddle.{Leads, left_at, Mid}
+use Rattle.gc_copying.specs.CopyMiddle.{IsCopiedTo, left_at, Mid}
 use Rattle.gc_copying.specs.CopySteps.{WorkAt}
 use Rattle.gc_copying.specs.CopyEnd.{IsBegun}
 use Rattle.gc_copying.proofs.MidLemmas.{no_both}
 use Rattle.gc_copying.proofs.CopyKeeps.{left_fresh}
+use Rattle.gc_copying.specs.Layout.{copying_size_at}
 
 -- what the two halves are
 pub record HalvesAre (capacity : ℕ) (upper : Bool) (half skip first end : ℕ) : Type 0 where
@@ -24,13 +24,13 @@ pub record HalvesAre (capacity : ℕ) (upper : Bool) (half skip first end : ℕ)
   pub skips : ((half ≡ 0) × (skip ≡ 0)) ⊎ ((16 ≤ half) × (skip ≡ 16))
   pub side : ((first ≡ skip) × (end ≡ half)) ⊎ ((first ≡ half + skip) × (end ≡ half + half))
 
-skips_are : (half : ℕ) → half % 16 ≡ 0 → ((half ≡ 0) × (skipped half ≡ 0)) ⊎ ((16 ≤ half) × (skipped half ≡ 16))
+skips_are : (half : ℕ) → half % 16 ≡ 0 → ((half ≡ 0) × (half_skipped half ≡ 0)) ⊎ ((16 ≤ half) × (half_skipped half ≡ 16))
 skips_are half whole = elim (cases_eq half 0) [
   | inl e ↦ inl (e, ap (λ b. if b then 0 else 16) (eq-eqb half 0 e))
   | inr ne ↦ inr (omega arith, ap (λ b. if b then 0 else 16) (ne_eqb half 0 ne))
 ]
 
-pub halves_are : (capacity : ℕ) (upper : Bool) → HalvesAre capacity upper (half_of capacity) (skipped (half_of capacity)) (half_first capacity upper) (half_end capacity upper)
+pub halves_are : (capacity : ℕ) (upper : Bool) → HalvesAre capacity upper (half_of capacity) (half_skipped (half_of capacity)) (half_first capacity upper) (half_end capacity upper)
 halves_are capacity true = record {
   twice = omega arith;
   whole = omega arith;
@@ -71,13 +71,13 @@ flipped_by capacity half skip first end base limit twice whole (inr k) (inr s) =
 pub flipped_half : (capacity : ℕ) (upper : Bool) → Flipped (half_first capacity upper) (half_end capacity upper) (half_first capacity (not upper)) (half_end capacity (not upper)) capacity
 flipped_half capacity true =
     let h = halves_are capacity true in
-    flipped_by capacity (half_of capacity) (skipped (half_of capacity)) _ _ _ _ h.twice h.whole h.skips (inr ((refl, refl), (omega arith, omega arith)))
+    flipped_by capacity (half_of capacity) (half_skipped (half_of capacity)) _ _ _ _ h.twice h.whole h.skips (inr ((refl, refl), (omega arith, omega arith)))
 flipped_half capacity false =
     let h = halves_are capacity false in
-    flipped_by capacity (half_of capacity) (skipped (half_of capacity)) _ _ _ _ h.twice h.whole h.skips (inl ((omega arith, omega arith), (refl, refl)))
+    flipped_by capacity (half_of capacity) (half_skipped (half_of capacity)) _ _ _ _ h.twice h.whole h.skips (inl ((omega arith, omega arith), (refl, refl)))
 
 -- nothing leads anywhere yet
-no_leads : (s : From) (p q : ℕ) → IsFrom s → Leads s s.memory p q → ⊥
+no_leads : (s : From) (p q : ℕ) → IsFrom s → IsCopiedTo s s.memory p q → ⊥
 no_leads s p q start leads = no_both (start.fresh p leads.place) leads.flagged
 
 same_all : (m : List ℕ) (lo hi : ℕ) → SameBytes m m lo hi
@@ -86,8 +86,8 @@ same_all m lo hi = record { same_length = refl; at = λ j d l h. refl }
 mid_begun : (s : From) (first end base limit : ℕ) → IsFrom s → s.first ≡ first → s.end ≤ end → Flipped first end base limit (length s.memory)
     → Mid s s.memory base base limit 0 base
 mid_begun s first end base limit start first_is fits f =
-    let all = sum_over-same (size_at s.memory) (left_at s s.memory) s.places (λ p i. left_fresh s s.memory p (start.fresh p i)) in
-    let sum = Chain-sum (size_at s.memory) s.first s.end s.places start.chain in
+    let all = sum_over-same (copying_size_at s.memory) (left_at s s.memory) s.places (λ p i. left_fresh s s.memory p (start.fresh p i)) in
+    let sum = Chain-sum (copying_size_at s.memory) s.first s.end s.places start.chain in
     record {
       start = start;
       same_length = refl;
@@ -102,8 +102,8 @@ mid_begun s first end base limit start first_is fits f =
       chain = done;
       counted = refl;
       sizes = λ p i. refl;
-      intact = λ p i clear. same_all s.memory p (p + size_at s.memory p);
-      tail = λ p i. same_all s.memory (p + 16) (p + size_at s.memory p);
+      intact = λ p i clear. same_all s.memory p (p + copying_size_at s.memory p);
+      tail = λ p i. same_all s.memory (p + 16) (p + copying_size_at s.memory p);
       copied = λ p q leads. absurd (no_leads s p q start leads);
       back = λ q i. elim i [ ];
       once = λ p p' q leads leads'. absurd (no_leads s p q start leads);
@@ -129,7 +129,7 @@ begun s old new is memory upper bump objects =
       mid = subst (λ (x : ℕ). Mid s new.memory (half_first (length new.memory) new.upper) x (half_end (length new.memory) new.upper) new.objects x) (sym b)
           (subst (λ (x : ℕ). Mid s new.memory (half_first (length new.memory) new.upper) (half_first (length new.memory) new.upper) (half_end (length new.memory) new.upper) x (half_first (length new.memory) new.upper)) (sym objects) on_memory);
       front = [];
-      chain = subst (λ (x : ℕ). Chain (size_at new.memory) (half_first (length new.memory) new.upper) x []) (sym b) done;
+      chain = subst (λ (x : ℕ). Chain (copying_size_at new.memory) (half_first (length new.memory) new.upper) x []) (sym b) done;
       scanned = refl;
       looked_at = refl;
     }

@@ -20,22 +20,22 @@ use Rattle.gc_heap.specs.Collection.{Start, has_host, IsPartOf, moved, moved_roo
 use Rattle.gc_heap.specs.Collection as content
 use Rattle.gc_copying.specs.declared.space.Space.{Space}
 use Rattle.gc_copying.specs.Spaces.{half_first}
-use Rattle.gc_copying.specs.Layout.{first_place, size_at, places_in, object_at}
-use Rattle.gc_copying.specs.Content.{Linked, last, link, space_view, IsWhole, IsSpace}
+use Rattle.gc_copying.specs.Layout.{copying_first_place, copying_size_at, places_in, copying_object_at}
+use Rattle.gc_copying.specs.Content.{CopyingLinked, last, link, space_view, IsCopyingWhole, IsSpace}
 use Rattle.gc_copying.specs.ObjectLaws.{held_only}
 use Rattle.gc_copying.proofs.ObjectLemmas.{held_in}
 use Rattle.gc_copying.specs.HeapLaws.{half_lies}
-use Rattle.gc_copying.specs.CopyWords.{host_word, IsExternal}
+use Rattle.gc_copying.specs.CopyWords.{copying_host_word, IsCopyingExternal}
 use Rattle.gc_copying.specs.CopyStart.{From, refs, ListsExternals}
 use Rattle.gc_copying.specs.CopyStart as start
 use Rattle.gc_copying.specs.CopyEnd.{IsRenamed, IsRenamedRoot, HostsSwept, ListsReached, IsFinished}
-use Rattle.gc_copying.specs.CopyBetween.{start_of, BeginsIn}
+use Rattle.gc_copying.specs.CopyBetween.{start_in_bytes, CopyingBeginsIn}
 use Rattle.gc_copying.proofs.SpaceLemmas.{space_of}
 use Rattle.gc_copying.proofs.ReadLemmas.{HeldAt, host_of}
 use Rattle.gc_copying.proofs.StartLemmas.{lies_so, held, found, refs_so, first_same, external_bits_are, kind_by_bits, reached_so, reached_in, reached_back}
 use Rattle.gc_copying.proofs.MovedLemmas.{same_size, moved_whole, is_moved}
 
-linked_back : (m : List ℕ) (head : ℕ) (ps : List ℕ) → start.Linked m head ps → Linked m head ps
+linked_back : (m : List ℕ) (head : ℕ) (ps : List ℕ) → start.NextExternals m head ps → CopyingLinked m head ps
 linked_back m _ [] start.none = last
 linked_back m _ (p ∷ ps) (start.link some l) = link some (linked_back m (word m (p + 20)) ps l)
 
@@ -64,9 +64,9 @@ distinct_so (x ∷ xs) once = (
   distinct_so xs (λ p. let a = once p in omega arith),
 )
 
-module _ (s : Start) (m : List ℕ) (upper : Bool) (bump head objects scopes : ℕ) (b : BeginsIn s m upper bump head objects scopes) where
+module _ (s : Start) (m : List ℕ) (upper : Bool) (bump head objects scopes : ℕ) (b : CopyingBeginsIn s m upper bump head objects scopes) where
   abbrev pub from : From
-  from = start_of s m upper bump head
+  from = start_in_bytes s m upper bump head
 
   -- what is reached, as lists
   are_reached : (places : List ℕ) → ListsReached from places → AreReached Copying s places
@@ -101,27 +101,27 @@ module _ (s : Start) (m : List ℕ) (upper : Bool) (bump head objects scopes : �
   counts_of places inside = sum-map count places ∙ counts_by places inside
 
   -- the number of an external object's host value
-  host_so : (p : ℕ) (o : HeapObject) → content.IsExternal s.heap p o → (In p (places_in m upper bump) × IsExternal m p) × (host_word m p - 1 ≡ host_id o)
+  host_so : (p : ℕ) (o : HeapObject) → content.IsExternal s.heap p o → (In p (places_in m upper bump) × IsCopyingExternal m p) × (copying_host_word m p - 1 ≡ host_id o)
   host_so p o e =
       let f = found s m upper bump head objects scopes b p o e.held in
       let at : HeldAt m upper bump p o = record { among = f.among; is = f.is; whole = b.space.whole p f.among; lies = lies_so s m upper bump head objects scopes b p f.among } in
       let x = host_of m upper bump p o at e.kind in
       ((f.among, external_bits_are m p (b.space.whole p f.among).kind x.kind), ap (λ (n : ℕ). n - 1) x.word_is)
 
-  external_so : (p : ℕ) → In p (places_in m upper bump) → IsExternal m p → content.IsExternal s.heap p (object_at m p)
+  external_so : (p : ℕ) → In p (places_in m upper bump) → IsCopyingExternal m p → content.IsExternal s.heap p (copying_object_at m p)
   external_so p i e = record { held = held s m upper bump head objects scopes b p i; kind = kind_by_bits m p e }
 
   module _ (h : Space) (roots : List Root) (k counted : ℕ) (f : IsFinished from s.roots roots h k counted) where
-    lies_new : (q : ℕ) → In q f.news → LiesInChain (size_at h.memory) (half_first (length h.memory) h.upper) h.bump q
-    lies_new q i = Chain-lies (size_at h.memory) (half_first (length h.memory) h.upper) h.bump q f.news f.chain i
+    lies_new : (q : ℕ) → In q f.news → LiesInChain (copying_size_at h.memory) (half_first (length h.memory) h.upper) h.bump q
+    lies_new q i = Chain-lies (copying_size_at h.memory) (half_first (length h.memory) h.upper) h.bump q f.news f.chain i
 
     pages_so : length h.memory % page ≡ 0
     pages_so = subst (λ n. n % page ≡ 0) (sym f.same_length) b.space.pages
 
-    renamed : (p : ℕ) (r : start.Reached from p) → In (f.to p) f.news × IsRenamed from h.memory f.to p (f.to p)
+    renamed : (p : ℕ) (r : start.CopyingReached from p) → In (f.to p) f.news × IsRenamed from h.memory f.to p (f.to p)
     renamed p r = f.kept p r
 
-    room_for : (p : ℕ) (r : start.Reached from p) → f.to p + size_at m p ≤ length h.memory
+    room_for : (p : ℕ) (r : start.CopyingReached from p) → f.to p + copying_size_at m p ≤ length h.memory
     room_for p r =
         let x = renamed p r in
         let i = reached_in s m upper bump head objects scopes b p r in
@@ -131,15 +131,15 @@ module _ (s : Start) (m : List ℕ) (upper : Bool) (bump head objects scopes : �
         let room = f.room in
         omega (arith, l.to, lies.to)
 
-    whole_at : (p : ℕ) (r : start.Reached from p) → IsWhole h.memory (f.to p)
+    whole_at : (p : ℕ) (r : start.CopyingReached from p) → IsCopyingWhole h.memory (f.to p)
     whole_at p r =
         moved_whole s m upper bump head objects scopes b h.memory f.to p (f.to p) (reached_in s m upper bump head objects scopes b p r) (renamed p r).1 (room_for p r)
 
-    whole_new : (q : ℕ) → In q f.news → IsWhole h.memory q
-    whole_new q i = let x = f.only q i in subst (IsWhole h.memory) x.1.1 (whole_at x.0 x.1.0)
+    whole_new : (q : ℕ) → In q f.news → IsCopyingWhole h.memory q
+    whole_new q i = let x = f.only q i in subst (IsCopyingWhole h.memory) x.1.1 (whole_at x.0 x.1.0)
 
-    chain_new : Chain (size_at h.memory) (first_place (length h.memory) h.upper) h.bump f.news
-    chain_new = subst (λ a. Chain (size_at h.memory) a h.bump f.news) (sym (first_same (length h.memory) h.upper pages_so)) f.chain
+    chain_new : Chain (copying_size_at h.memory) (copying_first_place (length h.memory) h.upper) h.bump f.news
+    chain_new = subst (λ a. Chain (copying_size_at h.memory) a h.bump f.news) (sym (first_same (length h.memory) h.upper pages_so)) f.chain
 
     -- The space is sound.
     pub space_new : IsSpace h.memory h.upper h.bump h.externals h.objects
@@ -154,7 +154,7 @@ module _ (s : Start) (m : List ℕ) (upper : Bool) (bump head objects scopes : �
         })
 
     places_new : places_in h.memory h.upper h.bump ≡ f.news
-    places_new = Chain-places (size_at h.memory) (first_place (length h.memory) h.upper) h.bump f.news chain_new
+    places_new = Chain-places (copying_size_at h.memory) (copying_first_place (length h.memory) h.upper) h.bump f.news chain_new
 
     -- so many increments
     pub increments_so : IsIncrements Copying s k
@@ -177,10 +177,10 @@ module _ (s : Start) (m : List ℕ) (upper : Bool) (bump head objects scopes : �
           let r = so p kp in
           let y = renamed p r in
           let among : In (f.to p) (places_in h.memory h.upper h.bump) = subst (In (f.to p)) (sym places_new) y.0 in (
-            object_at h.memory (f.to p),
+            copying_object_at h.memory (f.to p),
             (
               held_in h.memory (f.to p) (places_in h.memory h.upper h.bump) among,
-              subst (λ z. IsMoved Copying s.types f.to z (object_at h.memory (f.to p))) (sym x.is)
+              subst (λ z. IsMoved Copying s.types f.to z (copying_object_at h.memory (f.to p))) (sym x.is)
                   (is_moved s m upper bump head objects scopes b h.memory f.to p (f.to p) x.among y.1 (room_for p r)),
             ),
           );
@@ -195,8 +195,8 @@ module _ (s : Start) (m : List ℕ) (upper : Bool) (bump head objects scopes : �
       hosts_kept = λ id all.
           ap is_some (swept.kept id (λ p i e w.
           let ext = external_so p i e in
-          let x = host_so p (object_at m p) ext in
-          so p (all p (object_at m p) ext (let y = x.1 in omega arith))))
+          let x = host_so p (copying_object_at m p) ext in
+          so p (all p (copying_object_at m p) ext (let y = x.1 in omega arith))))
           ∙ ap (λ (g : ℕ → Bool). g id) hosts_are;
       attached = refl;
       capacity = f.same_length ∙ ap (λ (v : HeapView). v.capacity) b.heap_is;
@@ -204,8 +204,8 @@ module _ (s : Start) (m : List ℕ) (upper : Bool) (bump head objects scopes : �
       by_kind = other ∙ ap (λ (v : HeapView). not v.needs_gc) b.heap_is;
     }
       where
-        so : (p : ℕ) → content.Reached Copying s p → start.Reached from p
+        so : (p : ℕ) → content.ReachedPlace Copying s p → start.CopyingReached from p
         so p r = reached_so s m upper bump head objects scopes b p r
 
-        back : (p : ℕ) → start.Reached from p → content.Reached Copying s p
+        back : (p : ℕ) → start.CopyingReached from p → content.ReachedPlace Copying s p
         back p r = reached_back s m upper bump head objects scopes b p r

@@ -4,7 +4,7 @@ use Rattle.std.proofs.lemmas.Bool.{cases_eq, eq-eqb, ne_eqb}
 use Rattle.gc_memory.specs.Lists.{In, here, there, sum_over, occ}
 use Rattle.gc_memory.proofs.ListLemmas.{occ-same, occ-other, sum_over-le}
 use Rattle.gc_copying.specs.CopyWords.{next_external}
-use Rattle.gc_copying.specs.CopyStart.{Linked, none, link}
+use Rattle.gc_copying.specs.CopyStart.{NextExternals, none, link}
 
 -- 1 where two numbers are equal
 tally : ℕ → ℕ → ℕ
@@ -62,7 +62,7 @@ count_links (suc n) m e = cond (nat_eq e 0) 0 (1 + count_links n m (next_externa
 one_more : {a b : ℕ} → a ≡ b → 1 + a ≡ suc b
 one_more e = omega arith
 
-pub linked_count : (n : ℕ) (m ps : List ℕ) (e : ℕ) → Linked m e ps → length ps ≤ n → count_links n m e ≡ length ps
+pub linked_count : (n : ℕ) (m ps : List ℕ) (e : ℕ) → NextExternals m e ps → length ps ≤ n → count_links n m e ≡ length ps
 unfolding count_links
 linked_count zero m [] _ none h = refl
 linked_count (suc n) m [] _ none h = refl

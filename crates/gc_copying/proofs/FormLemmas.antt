@@ -12,16 +12,17 @@ use Rattle.gc_memory.specs.Words.{word}
 use Rattle.gc_memory.specs.Changes.{SameAcross}
 use Rattle.gc_memory.proofs.WordLemmas.{word-is, word_across}
 use Rattle.gc_copying.specs.declared.space.Space.{Space}
-use Rattle.gc_copying.specs.CopyWords.{size_at, bitmap_places, element_places, info_places, traced, offsets_at}
+use Rattle.gc_copying.specs.CopyWords.{bitmap_places, element_places, info_places, traced, copying_offsets_at}
 use Rattle.gc_heap.specs.References.{Spaced}
 use Rattle.gc_copying.specs.CopyStart.{From, refs}
 use Rattle.gc_copying.specs.CopyMiddle.{CopyOf}
-use Rattle.gc_copying.specs.CopySteps.{Scanning, CanScan, ScansAll}
+use Rattle.gc_copying.specs.CopySteps.{Scanning, CanScanCopy, ScansAll}
 use Rattle.gc_copying.proofs.MidLemmas.{Spaced-outside, lies, new_lies}
 use Rattle.gc_copying.proofs.ScanLemmas.{scanned_all}
+use Rattle.gc_copying.specs.Layout.{copying_size_at}
 
-pub traced_at : (types : List Declaration) (m : List ℕ) (p : ℕ) → offsets_at types m p ≡ traced types (word m p) (word m (p + 4)) (word m (p + 12))
-unfolding offsets_at
+pub traced_at : (types : List Declaration) (m : List ℕ) (p : ℕ) → copying_offsets_at types m p ≡ traced types (word m p) (word m (p + 4)) (word m (p + 12))
+unfolding copying_offsets_at
 traced_at types m p = refl
 
 pub by_form : (types : List Declaration) (kind_word ty count form : ℕ) → form_of kind_word ≡ form → traced types kind_word ty count
@@ -36,7 +37,7 @@ by_neither types kind_word ty count not_bitmap not_array =
 
 -- an object with a bitmap
 pub places_by_bitmap : (types : List Declaration) (m : List ℕ) (p kind_word bits : ℕ) → kind_word ≡ u32_at m p → MeansTrace kind_word (Bitmap bits)
-    → offsets_at types m p ≡ bitmap_places bits
+    → copying_offsets_at types m p ≡ bitmap_places bits
 places_by_bitmap types m p kind_word bits read means =
     let is : word m p ≡ kind_word = word-is m p ∙ sym read in
     traced_at types m p
@@ -52,7 +53,7 @@ odd_is w false is = ne_eqb (w % 2) 1 (λ e. absurd (false_is_not (is.1 e)))
 
 -- an array
 pub places_by_array : (types : List Declaration) (m : List ℕ) (p kind_word : ℕ) (elements : Bool) → kind_word ≡ u32_at m p → MeansTrace kind_word (Array elements)
-    → offsets_at types m p ≡ element_places elements (word m (p + 12))
+    → copying_offsets_at types m p ≡ element_places elements (word m (p + 12))
 places_by_array types m p kind_word elements read means =
     let is : word m p ≡ kind_word = word-is m p ∙ sym read in
     traced_at types m p
@@ -61,7 +62,7 @@ places_by_array types m p kind_word elements read means =
 
 -- an object out of line
 pub places_by_type : (types : List Declaration) (m : List ℕ) (p kind_word ty : ℕ) → kind_word ≡ u32_at m p → ty ≡ u32_at m (p + 4) → MeansTrace kind_word OutOfLine
-    → offsets_at types m p ≡ info_places (word m (p + 12)) (trace_at Copying types ty)
+    → copying_offsets_at types m p ≡ info_places (word m (p + 12)) (trace_at Copying types ty)
 places_by_type types m p kind_word ty read read_type means =
     let is : word m p ≡ kind_word = word-is m p ∙ sym read in
     traced_at types m p
@@ -69,21 +70,21 @@ places_by_type types m p kind_word ty read read_type means =
     ∙ ap (λ (t : ℕ). info_places (word m (p + 12)) (trace_at Copying types t)) (word-is m (p + 4) ∙ sym read_type)
 
 -- the first words of a copy lie in the memory
-pub header_inside : (h : Space) (q : ℕ) (all : List ℕ) → CanScan h q all → q + 16 ≤ length h.memory
+pub header_inside : (h : Space) (q : ℕ) (all : List ℕ) → CanScanCopy h q all → q + 16 ≤ length h.memory
 header_inside h q all can =
     let mid = can.scanning.mid in
     let at = new_lies mid q (mid.copied can.place q can.scanning.leads).inside in
     omega (arith, at.to, at.least, mid.room, mid.inside)
 
 -- the words of a copy before its references
-pub head_word : (s : From) (m : List ℕ) (t p q o : ℕ) → CopyOf s m t p q → Spaced 12 (size_at s.memory p) (refs s p) → 16 ≤ size_at s.memory p → o + 4 ≤ 12
+pub head_word : (s : From) (m : List ℕ) (t p q o : ℕ) → CopyOf s m t p q → Spaced 12 (copying_size_at s.memory p) (refs s p) → 16 ≤ copying_size_at s.memory p → o + 4 ≤ 12
     → word m (q + o) ≡ word s.memory (p + o)
 head_word s m t p q o copy spaced least h =
-    let head : SameAcross s.memory p m q 0 12 = record { at = λ j d l u. copy.rest j d (omega arith) (Spaced-outside 12 (size_at s.memory p) (refs s p) j spaced u) } in
+    let head : SameAcross s.memory p m q 0 12 = record { at = λ j d l u. copy.rest j d (omega arith) (Spaced-outside 12 (copying_size_at s.memory p) (refs s p) j spaced u) } in
     word_across head o (omega arith) h
 
 -- the form of a copy is one of three
-pub form_is : (h : Space) (q : ℕ) (all : List ℕ) (kind_word : ℕ) → CanScan h q all → kind_word ≡ u32_at h.memory q → form_of kind_word ≡ 3 → ⊥
+pub form_is : (h : Space) (q : ℕ) (all : List ℕ) (kind_word : ℕ) → CanScanCopy h q all → kind_word ≡ u32_at h.memory q → form_of kind_word ≡ 3 → ⊥
 form_is h q all kind_word can read three =
     let mid = can.scanning.mid in
     let leads = can.scanning.leads in
@@ -96,8 +97,8 @@ form_is h q all kind_word can read three =
     mid.start.form can.place leads.place (sym (ap form_of kind) ∙ three)
 
 -- what may be scanned, where the references are known in another form
-pub can_as : (h : Space) (q : ℕ) (all all' : List ℕ) → all ≡ all' → CanScan h q all → CanScan h q all'
-can_as h q all all' e can = subst (λ l. CanScan h q l) e can
+pub can_as : (h : Space) (q : ℕ) (all all' : List ℕ) → all ≡ all' → CanScanCopy h q all → CanScanCopy h q all'
+can_as h q all all' e can = subst (λ l. CanScanCopy h q l) e can
 
 pub scans_as : (old new : Space) (q : ℕ) (all all' : List ℕ) → all ≡ all' → ((s : From) (p u : ℕ) → Scanning s p q u all' old → ScansAll s p q old new)
     → (s : From) (p u : ℕ) → Scanning s p q u all old → ScansAll s p q old new

@@ -17,20 +17,20 @@ use Rattle.gc_view.specs.Pages.{page, max_pages}
 use Rattle.gc_view.specs.Heaps.{no_counts}
 use Rattle.gc_heap.specs.Content.{IsSpare}
 use Rattle.gc_heap.specs.Heap.{empty_heap, grown}
-use Rattle.gc_copying.specs.Spaces.{half_start, half_end}
-use Rattle.gc_copying.specs.Layout.{skipped, first_place, size_at, places_in, kind_at, data_at, object_at}
+use Rattle.gc_copying.specs.Spaces.{half_start, half_end, half_skipped}
+use Rattle.gc_copying.specs.Layout.{copying_first_place, copying_size_at, places_in, copying_kind_at, copying_data_at, copying_object_at}
 use Rattle.gc_copying.specs.Growth.{bump_in_more}
-use Rattle.gc_copying.specs.Content.{objects_at, space_view, Linked, last, link, IsSpace}
+use Rattle.gc_copying.specs.Content.{objects_at, space_view, CopyingLinked, last, link, IsSpace}
 use Rattle.gc_copying.specs.HeapLaws.{nothing, sixteen, skips, half_lies, lies_in_space}
 use Rattle.gc_copying.proofs.SpaceLemmas.{same_object, kind_in_same, whole_in_same, objects_same, space_of}
 use Rattle.gc_copying.proofs.WriteLemmas.{externals_kept}
 
 -- What is seen of a memory that was just attached.
 pub record Empty (bytes : List ℕ) : Type 0 where
-  pub space : IsSpace bytes false (skipped (length bytes)) 0 0
-  pub seen : (scopes : ℕ) → space_view bytes false (skipped (length bytes)) scopes ≡ empty_heap Copying (length bytes) scopes
+  pub space : IsSpace bytes false (half_skipped (length bytes)) 0 0
+  pub seen : (scopes : ℕ) → space_view bytes false (half_skipped (length bytes)) scopes ≡ empty_heap Copying (length bytes) scopes
 
-skipped_within : (n : ℕ) → n % 65536 ≡ 0 → skipped n ≤ half_end n false
+skipped_within : (n : ℕ) → n % 65536 ≡ 0 → half_skipped n ≤ half_end n false
 skipped_within n pages = elim (skips n false) [
   | nothing e skip start half ↦ omega arith
   | sixteen more skip ↦ omega arith
@@ -39,12 +39,12 @@ skipped_within n pages = elim (skips n false) [
 pub empty_space : (bytes : List ℕ) → length bytes ≤ page * max_pages → length bytes % 65536 ≡ 0 → Empty bytes
 empty_space bytes bound pages =
     let n : ℕ = length bytes in
-    let zero_first : first_place n false ≡ skipped n = omega arith in
-    let chain : Chain (size_at bytes) (first_place n false) (skipped n) [] = subst (λ e. Chain (size_at bytes) (first_place n false) e []) zero_first done in
-    let are : places_in bytes false (skipped n) ≡ [] = Chain-places (size_at bytes) (first_place n false) (skipped n) [] chain in
-    let minus : skipped n - 0 ≡ skipped n = omega arith in
+    let zero_first : copying_first_place n false ≡ half_skipped n = omega arith in
+    let chain : Chain (copying_size_at bytes) (copying_first_place n false) (half_skipped n) [] = subst (λ e. Chain (copying_size_at bytes) (copying_first_place n false) e []) zero_first done in
+    let are : places_in bytes false (half_skipped n) ≡ [] = Chain-places (copying_size_at bytes) (copying_first_place n false) (half_skipped n) [] chain in
+    let minus : half_skipped n - 0 ≡ half_skipped n = omega arith in
     record {
-      space = space_of bytes false (skipped n) 0 0 [] pages bound chain (skipped_within n pages) (λ p i. elim i [ ]) refl
+      space = space_of bytes false (half_skipped n) 0 0 [] pages bound chain (skipped_within n pages) (λ p i. elim i [ ]) refl
           (record { list = []; linked = last; only = λ p i. elim i [ ]; each = λ p i e. elim i [ ]; once = λ p. omega arith });
       seen = λ scopes i. record {
         attached = true;
@@ -62,15 +62,15 @@ part_grown bytes more p n h =
     ap (take n) (drop-append-le p bytes more (omega arith))
     ∙ take-append-le n (drop p bytes) more (omega (arith, length-drop p bytes))
 
-data_grown : (a more : List ℕ) (p : ℕ) (k : VMGcKind) → 16 ≤ size_at a p → (k ≡ ExternRef → size_at a p ≡ 32) → p + size_at a p ≤ length a → size_at (a ++ more) p ≡ size_at a p
-    → data_at (a ++ more) p k ≡ data_at a p k
-unfolding data_at
-data_grown a more p ExternRef least ext inside size = let whole : size_at a p ≡ 32 = ext refl in part_grown a more (p + 16) 4 (omega arith)
-data_grown a more p AnyRef least ext inside size = ap (λ n. take (n - 12) (drop (p + 12) (a ++ more))) size ∙ part_grown a more (p + 12) (size_at a p - 12) (omega arith)
-data_grown a more p EqRef least ext inside size = ap (λ n. take (n - 12) (drop (p + 12) (a ++ more))) size ∙ part_grown a more (p + 12) (size_at a p - 12) (omega arith)
-data_grown a more p StructRef least ext inside size = ap (λ n. take (n - 12) (drop (p + 12) (a ++ more))) size ∙ part_grown a more (p + 12) (size_at a p - 12) (omega arith)
-data_grown a more p ArrayRef least ext inside size = ap (λ n. take (n - 12) (drop (p + 12) (a ++ more))) size ∙ part_grown a more (p + 12) (size_at a p - 12) (omega arith)
-data_grown a more p ExnRef least ext inside size = ap (λ n. take (n - 12) (drop (p + 12) (a ++ more))) size ∙ part_grown a more (p + 12) (size_at a p - 12) (omega arith)
+data_grown : (a more : List ℕ) (p : ℕ) (k : VMGcKind) → 16 ≤ copying_size_at a p → (k ≡ ExternRef → copying_size_at a p ≡ 32) → p + copying_size_at a p ≤ length a → copying_size_at (a ++ more) p ≡ copying_size_at a p
+    → copying_data_at (a ++ more) p k ≡ copying_data_at a p k
+unfolding copying_data_at
+data_grown a more p ExternRef least ext inside size = let whole : copying_size_at a p ≡ 32 = ext refl in part_grown a more (p + 16) 4 (omega arith)
+data_grown a more p AnyRef least ext inside size = ap (λ n. take (n - 12) (drop (p + 12) (a ++ more))) size ∙ part_grown a more (p + 12) (copying_size_at a p - 12) (omega arith)
+data_grown a more p EqRef least ext inside size = ap (λ n. take (n - 12) (drop (p + 12) (a ++ more))) size ∙ part_grown a more (p + 12) (copying_size_at a p - 12) (omega arith)
+data_grown a more p StructRef least ext inside size = ap (λ n. take (n - 12) (drop (p + 12) (a ++ more))) size ∙ part_grown a more (p + 12) (copying_size_at a p - 12) (omega arith)
+data_grown a more p ArrayRef least ext inside size = ap (λ n. take (n - 12) (drop (p + 12) (a ++ more))) size ∙ part_grown a more (p + 12) (copying_size_at a p - 12) (omega arith)
+data_grown a more p ExnRef least ext inside size = ap (λ n. take (n - 12) (drop (p + 12) (a ++ more))) size ∙ part_grown a more (p + 12) (copying_size_at a p - 12) (omega arith)
 
 -- What a growth does to a space.
 pub record Grows (a b : List ℕ) (upper : Bool) (bump head objects n : ℕ) : Type 0 where
@@ -83,20 +83,20 @@ grows_more a bump head objects n s some whole bound =
     let b : List ℕ = a ++ replicate n 0 in
     let ps : List ℕ = places_in a false bump in
     let len : length b ≡ length a + n = length-append a (replicate n 0) ∙ ap (λ m. length a + m) (length-replicate {A = ℕ} n 0) in
-    let skip_a : skipped (length a) ≡ 16 = ap (λ t. cond t 0 16) (ne_eqb (length a) 0 (λ e. omega arith)) in
-    let skip_b : skipped (length b) ≡ 16 = ap (λ t. cond t 0 16) (ne_eqb (length b) 0 (λ e. omega arith)) in
-    let from = Chain-end (size_at a) (first_place (length a) false) bump ps s.chain in
-    let same_bump : bump_in_more bump (length b) ≡ bump = ap (λ t. cond t (skipped (length b)) bump) (ne_eqb bump 0 (λ e. omega arith)) in
-    let first : first_place (length b) false ≡ first_place (length a) false = omega arith in
+    let skip_a : half_skipped (length a) ≡ 16 = ap (λ t. cond t 0 16) (ne_eqb (length a) 0 (λ e. omega arith)) in
+    let skip_b : half_skipped (length b) ≡ 16 = ap (λ t. cond t 0 16) (ne_eqb (length b) 0 (λ e. omega arith)) in
+    let from = Chain-end (copying_size_at a) (copying_first_place (length a) false) bump ps s.chain in
+    let same_bump : bump_in_more bump (length b) ≡ bump = ap (λ t. cond t (half_skipped (length b)) bump) (ne_eqb bump 0 (λ e. omega arith)) in
+    let first : copying_first_place (length b) false ≡ copying_first_place (length a) false = omega arith in
     let words : (p : ℕ) → word b p ≡ word a p = λ p. word-grown a n p in
-    let object : (p : ℕ) → In p ps → object_at b p ≡ object_at a p = λ p i.
+    let object : (p : ℕ) → In p ps → copying_object_at b p ≡ copying_object_at a p = λ p i.
     let l = lies_in_space a false bump head objects p s i in
     let k = kind_in_same a b p (words p) in
     same_object _ _ k (words (p + 4)) (ap (λ w. w % spare_bits) (words p))
-    (ap (data_at b p) k ∙ data_grown a (replicate n 0) p (kind_at a p) l.least (λ e. ((s.whole p i).external e).size) l.inside (words (p + 8))) in
-    let chain_a : Chain (size_at b) (first_place (length a) false) bump ps = Chain-resized (size_at a) (size_at b) (first_place (length a) false) bump ps s.chain (λ p i. words (p + 8)) in
-    let chain : Chain (size_at b) (first_place (length b) false) bump ps = subst (λ f. Chain (size_at b) f bump ps) (sym first) chain_a in
-    let are : places_in b false bump ≡ ps = Chain-places (size_at b) (first_place (length b) false) bump ps chain in
+    (ap (copying_data_at b p) k ∙ data_grown a (replicate n 0) p (copying_kind_at a p) l.least (λ e. ((s.whole p i).external e).size) l.inside (words (p + 8))) in
+    let chain_a : Chain (copying_size_at b) (copying_first_place (length a) false) bump ps = Chain-resized (copying_size_at a) (copying_size_at b) (copying_first_place (length a) false) bump ps s.chain (λ p i. words (p + 8)) in
+    let chain : Chain (copying_size_at b) (copying_first_place (length b) false) bump ps = subst (λ f. Chain (copying_size_at b) f bump ps) (sym first) chain_a in
+    let are : places_in b false bump ≡ ps = Chain-places (copying_size_at b) (copying_first_place (length b) false) bump ps chain in
     let inside = s.inside in
     let space : IsSpace b false bump head objects =
     space_of b false bump head objects ps whole (omega arith) chain (omega arith)
@@ -135,8 +135,8 @@ has_nothing : (a : List ℕ) (upper : Bool) (bump head objects : ℕ) → IsSpac
 has_nothing a upper bump head objects s e =
     let lies = half_lies (length a) upper in
     let zero : bump ≡ 0 = omega (arith, s.inside, lies.to) in
-    let none : places_in a upper bump ≡ [] = no_places (size_at a) (first_place (length a) upper) (places_in a upper bump)
-    (subst (λ k. Chain (size_at a) (first_place (length a) upper) k (places_in a upper bump)) zero s.chain) in
+    let none : places_in a upper bump ≡ [] = no_places (copying_size_at a) (copying_first_place (length a) upper) (places_in a upper bump)
+    (subst (λ k. Chain (copying_size_at a) (copying_first_place (length a) upper) k (places_in a upper bump)) zero s.chain) in
     record {
       bump_is = zero;
       none = none;
@@ -144,7 +144,7 @@ has_nothing a upper bump head objects s e =
       count = s.count ∙ ap length none;
     }
   where
-    no_head : (h : ℕ) (list : List ℕ) → Linked a h list → ((p : ℕ) → In p list → In p []) → h ≡ 0
+    no_head : (h : ℕ) (list : List ℕ) → CopyingLinked a h list → ((p : ℕ) → In p list → In p []) → h ≡ 0
     no_head _ [] last among = refl
     no_head _ (p ∷ ps) (link positive rest) among = elim (among p here) [ ]
 
@@ -171,16 +171,16 @@ grows_none a upper bump head objects s =
           });
     })
   where
-    from : first_place (length a) upper ≤ bump
-    from = Chain-end (size_at a) (first_place (length a) upper) bump (places_in a upper bump) s.chain
+    from : copying_first_place (length a) upper ≤ bump
+    from = Chain-end (copying_size_at a) (copying_first_place (length a) upper) bump (places_in a upper bump) s.chain
 
     same_length : length a ≡ length a + 0
     same_length = omega arith
 
-    by_bump : (z : ℕ) → (z ≡ 0 → skipped (length a) ≡ 0) → bump_in_more z (length a) ≡ z
+    by_bump : (z : ℕ) → (z ≡ 0 → half_skipped (length a) ≡ 0) → bump_in_more z (length a) ≡ z
     by_bump z none = elim (cases_eq z 0) [
-      | inl e ↦ ap (λ t. cond t (skipped (length a)) z) (eq-eqb z 0 e) ∙ none e ∙ sym e
-      | inr ne ↦ ap (λ t. cond t (skipped (length a)) z) (ne_eqb z 0 ne)
+      | inl e ↦ ap (λ t. cond t (half_skipped (length a)) z) (eq-eqb z 0 e) ∙ none e ∙ sym e
+      | inr ne ↦ ap (λ t. cond t (half_skipped (length a)) z) (ne_eqb z 0 ne)
     ]
 
     same_bump : bump_in_more bump (length a) ≡ bump
@@ -201,12 +201,12 @@ grows_first a upper bump head objects n s e low bound pages =
     let nil : a ≡ [] = is_nil a e in
     let h = has_nothing a upper bump head objects s e in
     let made = empty_space b (omega arith) (ap (λ m. m % 65536) len ∙ pages) in
-    let bump_now : bump_in_more bump (length b) ≡ skipped (length b) = ap (λ t. cond t (skipped (length b)) bump) (eq-eqb bump 0 h.bump_is) in
+    let bump_now : bump_in_more bump (length b) ≡ half_skipped (length b) = ap (λ t. cond t (half_skipped (length b)) bump) (eq-eqb bump 0 h.bump_is) in
     let capacity_is : length b ≡ length a + n = omega arith in
     subst (λ x. Grows a x upper bump head objects n) (sym (ap (λ y. y ++ b) nil))
     (record {
-      space = subst (λ m. IsSpace b upper m head objects) (sym bump_now) (subst (λ u. IsSpace b u (skipped (length b)) head objects) (sym low)
-          (subst (λ k. IsSpace b false (skipped (length b)) k objects) (sym h.head_is) (subst (λ k. IsSpace b false (skipped (length b)) 0 k) (sym h.count) made.space)));
+      space = subst (λ m. IsSpace b upper m head objects) (sym bump_now) (subst (λ u. IsSpace b u (half_skipped (length b)) head objects) (sym low)
+          (subst (λ k. IsSpace b false (half_skipped (length b)) k objects) (sym h.head_is) (subst (λ k. IsSpace b false (half_skipped (length b)) 0 k) (sym h.count) made.space)));
       seen = λ scopes.
           ap₂ (λ u m. space_view b u m scopes) low bump_now
           ∙ made.seen scopes
@@ -214,7 +214,7 @@ grows_first a upper bump head objects n s e low bound pages =
             attached = true;
             content = objects_at a (sym h.none i);
             capacity = capacity_is i;
-            allocated = (ap skipped len ∙ sym (ap (λ t. cond t (skipped n) (bump - half_start (length a) upper)) (eq-eqb (length a) 0 e))) i;
+            allocated = (ap half_skipped len ∙ sym (ap (λ t. cond t (half_skipped n) (bump - half_start (length a) upper)) (eq-eqb (length a) 0 e))) i;
             needs_gc = sym low i;
             scopes = scopes;
             counts = no_counts;

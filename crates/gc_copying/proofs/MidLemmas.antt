@@ -10,24 +10,24 @@ use Rattle.gc_memory.specs.Lists.{In}
 use Rattle.gc_memory.proofs.WordLemmas.{word_in_same, word_across}
 use Rattle.gc_memory.proofs.ChainLemmas.{LiesInChain, Chain-lies, Chain-apart}
 use Rattle.gc_heap.proofs.SpacedLemmas.{Spaced-in}
-use Rattle.gc_copying.specs.CopyWords.{size_at}
 use Rattle.gc_heap.specs.References.{Spaced}
 use Rattle.gc_copying.specs.CopyStart.{From, refs}
-use Rattle.gc_copying.specs.CopyMiddle.{Moves, IsOutside, CopyOf, Mid, Later}
+use Rattle.gc_copying.specs.CopyMiddle.{Moves, IsOutsideWords, CopyOf, Mid, Later}
+use Rattle.gc_copying.specs.Layout.{copying_size_at}
 
 -- what lies before all of them is outside
-pub Spaced-outside : (lo hi : ℕ) (os : List ℕ) (j : ℕ) → Spaced lo hi os → j < lo → IsOutside os j
+pub Spaced-outside : (lo hi : ℕ) (os : List ℕ) (j : ℕ) → Spaced lo hi os → j < lo → IsOutsideWords os j
 Spaced-outside lo hi os j s l = λ o i. inl (let r = Spaced-in lo hi os o s i in omega (arith, r.0))
 
 -- where an old object lies
 pub lies : {s : From} {m : List ℕ} {base bump limit count t : ℕ} → Mid s m base bump limit count t → (p : ℕ) → In p s.places
-    → LiesInChain (size_at s.memory) s.first s.end p
-lies {s = s} mid p i = Chain-lies (size_at s.memory) s.first s.end p s.places mid.start.chain i
+    → LiesInChain (copying_size_at s.memory) s.first s.end p
+lies {s = s} mid p i = Chain-lies (copying_size_at s.memory) s.first s.end p s.places mid.start.chain i
 
 -- where a copy lies
 pub new_lies : {s : From} {m : List ℕ} {base bump limit count t : ℕ} → (mid : Mid s m base bump limit count t) → (q : ℕ) → In q mid.news
-    → LiesInChain (size_at m) base bump q
-new_lies {m = m} {base = base} {bump = bump} mid q i = Chain-lies (size_at m) base bump q mid.news mid.chain i
+    → LiesInChain (copying_size_at m) base bump q
+new_lies {m = m} {base = base} {bump = bump} mid q i = Chain-lies (copying_size_at m) base bump q mid.news mid.chain i
 
 -- two ranges, one inside the old objects and one inside the half of the copies, are apart
 pub halves_apart : {s : From} {m : List ℕ} {base bump limit count t : ℕ} → Mid s m base bump limit count t → (a b c d : ℕ)
@@ -42,17 +42,17 @@ no_both a b = omega arith
 
 -- two old objects are one, or apart
 pub old_apart : {s : From} {m : List ℕ} {base bump limit count t : ℕ} → Mid s m base bump limit count t → (p p' : ℕ) → In p s.places → In p' s.places
-    → (p' ≡ p → ⊥) → (p' + size_at s.memory p' ≤ p) ⊎ (p + size_at s.memory p ≤ p')
+    → (p' ≡ p → ⊥) → (p' + copying_size_at s.memory p' ≤ p) ⊎ (p + copying_size_at s.memory p ≤ p')
 old_apart {s = s} mid p p' i j ne = elim (cases_lt p p') [
-  | inl h ↦ inr (Chain-apart (size_at s.memory) s.first s.end p p' s.places mid.start.chain i j h)
-  | inr h ↦ inl (Chain-apart (size_at s.memory) s.first s.end p' p s.places mid.start.chain j i (less_by_ne p' p h ne))
+  | inl h ↦ inr (Chain-apart (copying_size_at s.memory) s.first s.end p p' s.places mid.start.chain i j h)
+  | inr h ↦ inl (Chain-apart (copying_size_at s.memory) s.first s.end p' p s.places mid.start.chain j i (less_by_ne p' p h ne))
 ]
 
 -- the size of a copy
-pub copy_size : {s : From} {m : List ℕ} {t p q : ℕ} → CopyOf s m t p q → Spaced 12 (size_at s.memory p) (refs s p) → 16 ≤ size_at s.memory p
-    → size_at m q ≡ size_at s.memory p
+pub copy_size : {s : From} {m : List ℕ} {t p q : ℕ} → CopyOf s m t p q → Spaced 12 (copying_size_at s.memory p) (refs s p) → 16 ≤ copying_size_at s.memory p
+    → copying_size_at m q ≡ copying_size_at s.memory p
 copy_size {s = s} {m = m} {p = p} {q = q} copy spaced least =
-    let head : SameAcross s.memory p m q 8 12 = record { at = λ j d l h. copy.rest j d (omega arith) (Spaced-outside 12 (size_at s.memory p) (refs s p) j spaced h) } in
+    let head : SameAcross s.memory p m q 8 12 = record { at = λ j d l h. copy.rest j d (omega arith) (Spaced-outside 12 (copying_size_at s.memory p) (refs s p) j spaced h) } in
     word_across head 8 (omega arith) (omega arith)
 
 -- what a later memory keeps of a moved word
@@ -60,15 +60,15 @@ pub moves_later : (s : From) (m m' : List ℕ) (w w' : ℕ) → Later s m m' →
 moves_later s m m' w w' later moves = record { leads = λ r. later w w' (moves.leads r); other = moves.other }
 
 -- a copy in bytes that stay
-pub copy_kept : (s : From) (m m' : List ℕ) (t p q : ℕ) → Spaced 12 (size_at s.memory p) (refs s p) → Later s m m'
-    → SameBytes m m' q (q + size_at s.memory p) → CopyOf s m t p q → CopyOf s m' t p q
+pub copy_kept : (s : From) (m m' : List ℕ) (t p q : ℕ) → Spaced 12 (copying_size_at s.memory p) (refs s p) → Later s m m'
+    → SameBytes m m' q (q + copying_size_at s.memory p) → CopyOf s m t p q → CopyOf s m' t p q
 copy_kept s m m' t p q spaced later same copy = record {
   rest = λ j d l h. same.at (q + j) d (omega arith) (omega arith) ∙ copy.rest j d l h;
   moved = λ o i l.
-      let r = Spaced-in 12 (size_at s.memory p) (refs s p) o spaced i in
+      let r = Spaced-in 12 (copying_size_at s.memory p) (refs s p) o spaced i in
       let e : word m' (q + o) ≡ word m (q + o) = word_in_same m m' (q + o) (SameBytes-part same (q + o) (q + o + 4) (omega arith) (omega (arith, r.1))) in
       subst (λ w. Moves s m' (word s.memory (p + o)) w) (sym e) (moves_later s m m' _ _ later (copy.moved o i l));
   to_do = λ o i l.
-      let r = Spaced-in 12 (size_at s.memory p) (refs s p) o spaced i in
+      let r = Spaced-in 12 (copying_size_at s.memory p) (refs s p) o spaced i in
       word_in_same m m' (q + o) (SameBytes-part same (q + o) (q + o + 4) (omega arith) (omega (arith, r.1))) ∙ copy.to_do o i l;
 }

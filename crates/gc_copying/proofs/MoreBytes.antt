@@ -8,8 +8,9 @@ use Rattle.gc_memory.specs.Words.{word}
 use Rattle.gc_memory.specs.Changes.{Wrote, SameAcross}
 use Rattle.gc_memory.proofs.ChangeLemmas.{Wrote-put_u32, Wrote-move, Wrote-apart, SameAcross-move, SameAcross-kept}
 use Rattle.gc_memory.proofs.WordLemmas.{word-is, word-put_u32, word_apart}
-use Rattle.gc_copying.specs.CopyWords.{flag, size_at, copied_unit}
-use Rattle.gc_copying.specs.CopySteps.{CanCopy, Copies}
+use Rattle.gc_copying.specs.CopyWords.{flag, copied_unit}
+use Rattle.gc_copying.specs.CopySteps.{CanCopyTo, CopiesObject}
+use Rattle.gc_copying.specs.Layout.{copying_size_at}
 
 -- a write of a word, where the memory after it is named
 pub wrote_word : (m m' : List ℕ) (p v : ℕ) → p + 4 ≤ length m → m' ≡ put_u32 m p v → Wrote m m' p 4
@@ -53,7 +54,7 @@ copy_kept m1 m2 m3 p q n least w2 w3 (inr h) =
 copies_by : (m m1 m2 m3 : List ℕ) (p q n kind_word : ℕ) → p + n ≤ length m → q + n ≤ length m → 16 ≤ n → (p + n ≤ q) ⊎ (q + n ≤ p)
     → flag m p ≡ 0 → length m < 2 ^ 32 → kind_word ≡ word m p → kind_word < 2 ^ 32
     → m1 ≡ put_bytes m q (take n (drop p m)) → m2 ≡ put_u32 m1 p (kind_word + copied_unit) → m3 ≡ put_u32 m2 (p + 12) q
-    → Copies m m3 p q n
+    → CopiesObject m m3 p q n
 copies_by m m1 m2 m3 p q n kind_word source destination least apart fresh short kind small e1 e2 e3 =
     let w1 : Wrote m m1 q n = subst (λ b. Wrote m b q n) (sym e1) (Wrote-move m p q n source destination) in
     let len1 : length m1 ≡ length m = w1.same_length in
@@ -81,12 +82,12 @@ copies_by m m1 m2 m3 p q n kind_word source destination least apart fresh short 
     }
 
 -- an object of that size may be copied: what three writes make of the memory
-pub copies : (m m1 m2 m3 : List ℕ) (p q n kind_word : ℕ) → CanCopy m p q → n ≡ u32_at m (p + 8) → kind_word ≡ word m p → kind_word < 2 ^ 32
+pub copies : (m m1 m2 m3 : List ℕ) (p q n kind_word : ℕ) → CanCopyTo m p q → n ≡ u32_at m (p + 8) → kind_word ≡ word m p → kind_word < 2 ^ 32
     → m1 ≡ put_bytes m q (take n (drop p m)) → m2 ≡ put_u32 m1 p (kind_word + copied_unit) → m3 ≡ put_u32 m2 (p + 12) q
-    → Copies m m3 p q (size_at m p)
+    → CopiesObject m m3 p q (copying_size_at m p)
 copies m m1 m2 m3 p q n kind_word can size kind small e1 e2 e3 =
-    let is : n ≡ size_at m p = size ∙ sym (word-is m (p + 8)) in
-    subst (λ (k : ℕ). Copies m m3 p q k) is
+    let is : n ≡ copying_size_at m p = size ∙ sym (word-is m (p + 8)) in
+    subst (λ (k : ℕ). CopiesObject m m3 p q k) is
     (copies_by m m1 m2 m3 p q n kind_word
     (subst (λ (k : ℕ). p + k ≤ length m) (sym is) can.source)
     (subst (λ (k : ℕ). q + k ≤ length m) (sym is) can.destination)
@@ -95,5 +96,5 @@ copies m m1 m2 m3 p q n kind_word can size kind small e1 e2 e3 =
     can.fresh can.small kind small e1 e2 e3)
 
 -- the size that was read
-pub size_read : (m : List ℕ) (p n : ℕ) → n ≡ u32_at m (p + 8) → n ≡ size_at m p
+pub size_read : (m : List ℕ) (p n : ℕ) → n ≡ u32_at m (p + 8) → n ≡ copying_size_at m p
 size_read m p n e = e ∙ sym (word-is m (p + 8))

@@ -4,7 +4,7 @@ use Rattle.gc_heap.specs.References.{bit_offsets, word_offsets}
 use Rattle.std.proofs.Math.Seq.{drop-cons, drop-length}
 use Rattle.gc_heap.proofs.SpacedLemmas.{no_bits, bit_set, bit_clear}
 use Rattle.gc_copying.specs.declared.space.Space.{Space}
-use Rattle.gc_copying.specs.CopySteps.{CanScan}
+use Rattle.gc_copying.specs.CopySteps.{CanScanCopy}
 use Rattle.gc_copying.specs.CopyWords.{bitmap_places}
 use Rattle.gc_copying.proofs.ScanLemmas.{Going, going_as, going_start, going_can, field_inside}
 
@@ -99,7 +99,7 @@ pub going_ticks : (old now : Space) (q : ℕ) (all : List ℕ) (counted count : 
 going_ticks old now q all counted count going = omega (arith, going.ticks)
 
 -- the next offset fits
-pub offset_fits : (old now : Space) (q : ℕ) (all left : List ℕ) (o counted count : ℕ) → Going old now q all (o ∷ left) counted count → CanScan old q all → o < 2 ^ 32
+pub offset_fits : (old now : Space) (q : ℕ) (all left : List ℕ) (o counted count : ℕ) → Going old now q all (o ∷ left) counted count → CanScanCopy old q all → o < 2 ^ 32
 offset_fits old now q all left o counted count going can =
     let at = going_can old now q all left o counted count going can in
     let inside = field_inside at.start at.place q at.from o at.left now at.scanning in

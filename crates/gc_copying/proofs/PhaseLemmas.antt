@@ -11,20 +11,20 @@ use Rattle.gc_roots.specs.Roots.{Root, root_at}
 use Rattle.gc_heap.specs.Collection.{objects_per_increment}
 use Rattle.gc_copying.specs.declared.space.Space.{Space}
 use Rattle.gc_copying.specs.Spaces.{half_first, half_end}
-use Rattle.gc_copying.specs.CopyWords.{size_at}
 use Rattle.gc_copying.specs.CopyStart.{From}
 use Rattle.gc_copying.specs.CopyMiddle.{Mid, Later}
-use Rattle.gc_copying.specs.CopySteps.{Midway, SameSides, WorkAt, WorksOn, RootsMoved, words_of}
+use Rattle.gc_copying.specs.CopySteps.{Midway, SameSides, WorkAt, WorksOn, RootsMoved, words_of_roots}
 use Rattle.gc_copying.specs.CopyEnd.{IsBegun, AtWork, AtSweep, ListsReached, IsFinished, HostsSwept}
 use Rattle.gc_copying.specs.declared.copy.collect.Phase.{Phase}
 use Rattle.gc_copying.specs.declared.copy.collect.Phase.TheVariants as phase
-use Rattle.gc_copying.specs.CopyPhases.{Progress, BeforeRoots, AtScan, BeforeSweep, InPhase, UnderWay, one_more, GoesOn, IsComplete, Scanned}
+use Rattle.gc_copying.specs.CopyPhases.{CopyProgress, BeforeRoots, AtScan, BeforeSweep, InPhase, UnderWay, one_more, CopyingGoesOn, IsComplete, Scanned}
 use Rattle.gc_copying.proofs.LastLemmas.{finished, hosts_swept}
 use Rattle.gc_copying.specs.CopySweep.{Sweeps, SameCounts}
 use Rattle.std.proofs.lemmas.Bool.{cases_lt}
 use Rattle.gc_copying.proofs.MidLemmas.{moves_later}
 use Rattle.gc_copying.proofs.FewLemmas.{few}
 use Rattle.gc_copying.proofs.FinishLemmas.{sources, sources_length, sources_only, sources_once}
+use Rattle.gc_copying.specs.Layout.{copying_size_at}
 
 -- the roots stay moved
 pub roots_later : (s : From) (m m' : List ℕ) (rs roots : List Root) → Later s m m' → RootsMoved s m rs roots → RootsMoved s m' rs roots
@@ -59,7 +59,7 @@ scanned_all_copies types s rs roots old new scan k counted more before now last 
     let on = scans (objects_per_increment * k) at.fields types_are at.work in
     let work = on.works.work in
     let base = half_first (length new.memory) new.upper in
-    let all : work.front ≡ work.mid.news = Chain-unique (size_at new.memory) base new.bump work.front work.mid.news work.chain work.mid.chain in
+    let all : work.front ≡ work.mid.news = Chain-unique (copying_size_at new.memory) base new.bump work.front work.mid.news work.chain work.mid.chain in
     let objects : objects_per_increment * k + last ≡ new.objects = sym work.scanned ∙ ap (λ (l : List ℕ). length l) all ∙ work.mid.counted in
     record {
       fields = at.fields + on.references;
@@ -81,7 +81,7 @@ prefix_length size a b e (_ ∷ ps) (_ ∷ qs) (next l w c) (next m v d) h = ome
 reached_at_least : (s : From) (m : List ℕ) (base bump limit count t : ℕ) (mid : Mid s m base bump limit count t) → (reached : List ℕ) → ListsReached s reached → count ≤ length reached
 reached_at_least s m base bump limit count t mid reached lists =
     let once_here : (q : ℕ) → occ q mid.news ≤ 1 = λ q. elim (cases_lt 0 (occ q mid.news)) [
-      | inl some ↦ (let one = Chain-once (size_at m) base bump q mid.news mid.chain (occ-In q mid.news some) in omega arith)
+      | inl some ↦ (let one = Chain-once (copying_size_at m) base bump q mid.news mid.chain (occ-In q mid.news some) in omega arith)
       | inr no_one ↦ omega arith
     ] in
     let from = sources s m base bump limit count t mid mid.news mid.back in
@@ -98,11 +98,11 @@ scanned_at_least s rs roots h scan k counted at reached lists =
     let work = at.work in
     let base = half_first (length h.memory) h.upper in
     let least = reached_at_least s h.memory base h.bump (half_end (length h.memory) h.upper) h.objects scan work.mid reached lists in
-    let part : length work.front ≤ length work.mid.news = prefix_length (size_at h.memory) base scan h.bump work.front work.mid.news work.chain work.mid.chain work.mid.frontier in
+    let part : length work.front ≤ length work.mid.news = prefix_length (copying_size_at h.memory) base scan h.bump work.front work.mid.news work.chain work.mid.chain work.mid.frontier in
     omega (arith, least, part, work.scanned, work.mid.counted)
 
 -- what comes after an increment that scanned
-phase_scanned : (D : Type 0) (c : Progress D) (h : Space) (at : Phase) (roots : List Root) (scans more externals : ℕ) → c.increments ≡ scans + 1 → externals ≡ c.start.externals
+phase_scanned : (D : Type 0) (c : CopyProgress D) (h : Space) (at : Phase) (roots : List Root) (scans more externals : ℕ) → c.increments ≡ scans + 1 → externals ≡ c.start.externals
     → Scanned c.start c.began_with roots h scans (c.counted + more) externals at → InPhase D (one_more c more) h at roots
 phase_scanned D c h phase.Roots roots scans more externals is externals_are scanned = absurd scanned
 phase_scanned D c h (phase.Worklist scan kept) roots scans more externals is externals_are scanned =
@@ -112,10 +112,10 @@ phase_scanned D c h (phase.Sweep kept) roots scans more externals is externals_a
 phase_scanned D c h phase.Done roots scans more externals is externals_are scanned = absurd scanned
 
 -- a collection goes on after it
-pub goes_on_scanning : (D : Type 0) (c : Progress D) (old new : Space) (at at' : Phase) (roots : List Root) (types : List Declaration) (hosts : finite.FinMap nat_cmp D) (scan externals more before now : ℕ)
+pub goes_on_scanning : (D : Type 0) (c : CopyProgress D) (old new : Space) (at at' : Phase) (roots : List Root) (types : List Declaration) (hosts : finite.FinMap nat_cmp D) (scan externals more before now : ℕ)
     → UnderWay D c old at roots types hosts → at ≡ phase.Worklist scan externals
     → ((s : From) (rs roots1 : List Root) (k counted more1 : ℕ) → s.types ≡ types → AtWork s rs roots1 old scan k counted → now ≡ before + more1 → Scanned s rs roots1 new k (counted + more1) externals at')
-    → now ≡ before + more → GoesOn D (one_more c more) new at' roots types hosts
+    → now ≡ before + more → CopyingGoesOn D (one_more c more) new at' roots types hosts
 goes_on_scanning D c old new at at' roots types hosts scan externals more before now under is scanned counts =
     let in_phase : AtScan D c old scan externals roots = subst (λ ph. InPhase D c old ph roots) is under.in_phase in
     record {
@@ -131,12 +131,12 @@ goes_on_scanning D c old new at at' roots types hosts scan externals more before
     }
 
 -- where the sweep stands
-pub at_sweep : (D : Type 0) (c : Progress D) (h : Space) (at : Phase) (roots : List Root) (types : List Declaration) (hosts : finite.FinMap nat_cmp D) (externals : ℕ)
+pub at_sweep : (D : Type 0) (c : CopyProgress D) (h : Space) (at : Phase) (roots : List Root) (types : List Declaration) (hosts : finite.FinMap nat_cmp D) (externals : ℕ)
     → UnderWay D c h at roots types hosts → at ≡ phase.Sweep externals → BeforeSweep D c h externals roots
 at_sweep D c h at roots types hosts externals under is = subst (λ ph. InPhase D c h ph roots) is under.in_phase
 
 -- a collection is complete after the sweep
-pub complete_after_sweep : (D : Type 0) (c : Progress D) (old new : Space) (at : Phase) (roots : List Root) (types : List Declaration) (hosts hosts' : finite.FinMap nat_cmp D) (externals more before : ℕ)
+pub complete_after_sweep : (D : Type 0) (c : CopyProgress D) (old new : Space) (at : Phase) (roots : List Root) (types : List Declaration) (hosts hosts' : finite.FinMap nat_cmp D) (externals more before : ℕ)
     → UnderWay D c old at roots types hosts → at ≡ phase.Sweep externals
     → ((s : From) → Midway s old.bump old → externals ≡ s.externals → Sweeps s D old new hosts hosts') → SameCounts old new
     → before ≡ before + more → IsComplete D (one_more c more) new roots hosts'
@@ -154,10 +154,10 @@ complete_after_sweep D c old new at roots types hosts hosts' externals more befo
     }
 
 -- a collection goes on after its roots were moved
-pub goes_on_after_roots : (D : Type 0) (c : Progress D) (old new : Space) (at : Phase) (roots roots' : List Root) (types : List Declaration) (hosts : finite.FinMap nat_cmp D) (scan more before now : ℕ)
+pub goes_on_after_roots : (D : Type 0) (c : CopyProgress D) (old new : Space) (at : Phase) (roots roots' : List Root) (types : List Declaration) (hosts : finite.FinMap nat_cmp D) (scan more before now : ℕ)
     → UnderWay D c old at roots types hosts → at ≡ phase.Roots
-    → ((s : From) (counted : ℕ) → IsBegun s old → s.roots ≡ words_of roots → now ≡ before + counted → AtWork s roots roots' new scan 0 counted)
-    → now ≡ before + more → GoesOn D (one_more c more) new (phase.Worklist scan old.externals) roots' types hosts
+    → ((s : From) (counted : ℕ) → IsBegun s old → s.roots ≡ words_of_roots roots → now ≡ before + counted → AtWork s roots roots' new scan 0 counted)
+    → now ≡ before + more → CopyingGoesOn D (one_more c more) new (phase.Worklist scan old.externals) roots' types hosts
 goes_on_after_roots D c old new at roots roots' types hosts scan more before now under is begins counts =
     let in_phase : BeforeRoots D c old roots = subst (λ ph. InPhase D c old ph roots) is under.in_phase in
     let work = begins c.start more in_phase.begun in_phase.roots_are counts in

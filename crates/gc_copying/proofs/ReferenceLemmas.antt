@@ -23,26 +23,26 @@ use Rattle.gc_heap.specs.Content.{TracesInside, IsSpare}
 use Rattle.gc_heap.proofs.ReferenceLemmas.{outside, by_bits, by_length, by_type, form_is, content_by_form, typed_is, references_spaced}
 use Rattle.gc_heap.proofs.ReferenceLemmas as heap
 use Rattle.gc_heap.proofs.SpacedLemmas.{spaced_wider, no_bits}
-use Rattle.gc_copying.specs.Layout.{size_at, kind_at, data_at, object_at}
-use Rattle.gc_copying.specs.Content.{IsWhole}
-use Rattle.gc_copying.specs.CopyWords.{offsets_at, bitmap_places, element_places, info_places}
+use Rattle.gc_copying.specs.Layout.{copying_size_at, copying_kind_at, copying_data_at, copying_object_at}
+use Rattle.gc_copying.specs.Content.{IsCopyingWhole}
+use Rattle.gc_copying.specs.CopyWords.{copying_offsets_at, bitmap_places, element_places, info_places}
 use Rattle.gc_copying.proofs.FormLemmas.{traced_at, by_form}
 
 -- a word of the data of an object with fields
-pub field_word : (m : List ℕ) (p o : ℕ) (k : VMGcKind) → HasFields k → 12 ≤ o → o + 4 ≤ size_at m p → p + size_at m p ≤ length m → u32_at (data_at m p k) (o - 12) ≡ word m (p + o)
-unfolding data_at
+pub field_word : (m : List ℕ) (p o : ℕ) (k : VMGcKind) → HasFields k → 12 ≤ o → o + 4 ≤ copying_size_at m p → p + copying_size_at m p ≤ length m → u32_at (copying_data_at m p k) (o - 12) ≡ word m (p + o)
+unfolding copying_data_at
 field_word m p o ExternRef h from to inside = absurd h
 field_word m p o AnyRef h from to inside = absurd h
 field_word m p o EqRef h from to inside = absurd h
 field_word m p o StructRef h from to inside =
     let at : p + 12 + (o - 12) ≡ p + o = omega arith in
-    u32_at-part m (p + 12) (size_at m p - 12) (o - 12) (omega arith) (omega arith) ∙ ap (u32_at m) at ∙ sym (word-is m (p + o))
+    u32_at-part m (p + 12) (copying_size_at m p - 12) (o - 12) (omega arith) (omega arith) ∙ ap (u32_at m) at ∙ sym (word-is m (p + o))
 field_word m p o ArrayRef h from to inside =
     let at : p + 12 + (o - 12) ≡ p + o = omega arith in
-    u32_at-part m (p + 12) (size_at m p - 12) (o - 12) (omega arith) (omega arith) ∙ ap (u32_at m) at ∙ sym (word-is m (p + o))
+    u32_at-part m (p + 12) (copying_size_at m p - 12) (o - 12) (omega arith) (omega arith) ∙ ap (u32_at m) at ∙ sym (word-is m (p + o))
 field_word m p o ExnRef h from to inside =
     let at : p + 12 + (o - 12) ≡ p + o = omega arith in
-    u32_at-part m (p + 12) (size_at m p - 12) (o - 12) (omega arith) (omega arith) ∙ ap (u32_at m) at ∙ sym (word-is m (p + o))
+    u32_at-part m (p + 12) (copying_size_at m p - 12) (o - 12) (omega arith) (omega arith) ∙ ap (u32_at m) at ∙ sym (word-is m (p + o))
 
 elements_are : (b : Bool) (n count : ℕ) → n ≡ count → (if b then word_offsets 16 n else []) ≡ element_places b count
 elements_are true n count e = ap (word_offsets 16) e
@@ -65,18 +65,18 @@ pub same_form : (w : ℕ) → form_of (w % spare_bits) ≡ form_of w
 same_form w = omega arith
 
 -- the number behind the size word is an array's length
-pub length_is : (m : List ℕ) (p : ℕ) → HasFields (kind_at m p) → 16 ≤ size_at m p → p + size_at m p ≤ length m → array_length (object_at m p) ≡ word m (p + 12)
-length_is m p h least inside = field_word m p 12 (kind_at m p) h (omega arith) (omega arith) inside
+pub length_is : (m : List ℕ) (p : ℕ) → HasFields (copying_kind_at m p) → 16 ≤ copying_size_at m p → p + copying_size_at m p ≤ length m → array_length (copying_object_at m p) ≡ word m (p + 12)
+length_is m p h least inside = field_word m p 12 (copying_kind_at m p) h (omega arith) (omega arith) inside
 
-pub refs_are : (types : List Declaration) (m : List ℕ) (p : ℕ) → IsWhole m p → 16 ≤ size_at m p → p + size_at m p ≤ length m
-    → reference_offsets Copying types (object_at m p) ≡ offsets_at types m p
+pub refs_are : (types : List Declaration) (m : List ℕ) (p : ℕ) → IsCopyingWhole m p → 16 ≤ copying_size_at m p → p + copying_size_at m p ≤ length m
+    → reference_offsets Copying types (copying_object_at m p) ≡ copying_offsets_at types m p
 refs_are types m p whole least inside =
-    let o : HeapObject = object_at m p in
+    let o : HeapObject = copying_object_at m p in
     let w : ℕ = word m p in
     let small : w % spare_bits < 2 ^ 25 = whole.spare.0 in
     let same : form_of (w % spare_bits) ≡ form_of w = same_form w in
     let right = λ (form : ℕ) (e : form_of o.spare ≡ form). by_form types w (word m (p + 4)) (word m (p + 12)) form (sym same ∙ e) in
-    elim (form_is o (kind_at m p) whole.spare.1) [
+    elim (form_is o (copying_kind_at m p) whole.spare.1) [
       | outside is none ↦
           let form : form_of (w % spare_bits) ≡ 0 = omega arith in
           content_by_form types o 0 form ∙ bits_are w small form ∙ sym (traced_at types m p ∙ right 0 form)
@@ -84,14 +84,14 @@ refs_are types m p whole least inside =
           content_by_form types o 0 form ∙ bits_are w small form ∙ sym (traced_at types m p ∙ right 0 form)
       | by_length is form all ↦
           let parity : w % spare_bits % 2 ≡ w % 2 = omega arith in
-          let fields : HasFields (kind_at m p) = subst HasFields (sym is) tt in
+          let fields : HasFields (copying_kind_at m p) = subst HasFields (sym is) tt in
           content_by_form types o 1 form
           ∙ ap (λ (n : ℕ). if nat_eq n 1 then element_offsets Copying o else []) parity
           ∙ elements_are (w % 2 == 1) (array_length o) (word m (p + 12)) (length_is m p fields least inside)
           ∙ sym (traced_at types m p ∙ right 1 form)
       | by_type fields form ↦
           content_by_form types o 2 form
-          ∙ typed_is Copying types o (kind_at m p) fields
+          ∙ typed_is Copying types o (copying_kind_at m p) fields
           ∙ info_are o (word m (p + 12)) (trace_at Copying types o.ty) (length_is m p fields least inside)
           ∙ sym (traced_at types m p ∙ right 2 form)
     ]

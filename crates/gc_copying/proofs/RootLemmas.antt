@@ -9,20 +9,20 @@ use Rattle.gc_heap.specs.Collection.{present_words}
 use Rattle.gc_copying.specs.declared.space.Space.{Space}
 use Rattle.gc_copying.specs.CopyStart.{From, by_root}
 use Rattle.gc_copying.specs.CopyMiddle.{Moves, Later}
-use Rattle.gc_copying.specs.CopySteps.{Midway, Known, CanForward, Forwards, IsMovedRoot, words_of, CanForwardRoots, ForwardsRoots}
+use Rattle.gc_copying.specs.CopySteps.{Midway, Known, CanForward, Forwards, IsMovedRoot, words_of_roots, CanForwardRoots, ForwardsRoots}
 use Rattle.gc_copying.proofs.MidLemmas.{new_lies, moves_later}
 use Rattle.gc_copying.proofs.ScanLemmas.{place_of_word}
 
 -- a root's word is one of the words
-pub word_in : (rs : List Root) (i : ℕ) → i < length rs → In (root_at rs i).word (words_of rs)
+pub word_in : (rs : List Root) (i : ℕ) → i < length rs → In (root_at rs i).word (words_of_roots rs)
 word_in [] i h = absurd (omega arith)
 word_in (r ∷ rs) zero h = here
 word_in (r ∷ rs) (suc i) h = there (word_in rs i (omega arith))
 
 -- so it is known
-pub known_root : (s : From) (t : ℕ) (h : Space) (rs : List Root) (i w : ℕ) → s.roots ≡ words_of rs → Midway s t h → i < length rs → w ≡ (root_at rs i).word → Known s w
+pub known_root : (s : From) (t : ℕ) (h : Space) (rs : List Root) (i w : ℕ) → s.roots ≡ words_of_roots rs → Midway s t h → i < length rs → w ≡ (root_at rs i).word → Known s w
 known_root s t h rs i w roots mid less is place =
-    let inside : In w s.roots = subst (λ l. In w l) (sym roots) (subst (λ (x : ℕ). In x (words_of rs)) (sym is) (word_in rs i less)) in
+    let inside : In w s.roots = subst (λ l. In w l) (sym roots) (subst (λ (x : ℕ). In x (words_of_roots rs)) (sym is) (word_in rs i less)) in
     let at = place_of_word s w (mid.start.roots w inside) place in
     (at, by_root at inside)
 
@@ -135,7 +135,7 @@ is_zero n h = omega arith
 
 -- the next root may be moved
 pub can_forward_root : (old now : Space) (roots now_roots : List Root) (index w : ℕ)
-    → ((s : From) (t : ℕ) → s.roots ≡ words_of roots → Midway s t old → RootsSoFar s t old now roots now_roots index)
+    → ((s : From) (t : ℕ) → s.roots ≡ words_of_roots roots → Midway s t old → RootsSoFar s t old now roots now_roots index)
     → CanForwardRoots old roots → index < length roots → w ≡ (root_at now_roots index).word → CanForward now w
 can_forward_root old now roots now_roots index w along can less is =
     let so_far = along can.start can.frontier can.roots_are can.mid in
@@ -148,10 +148,10 @@ can_forward_root old now roots now_roots index w along can less is =
 
 -- it was moved
 pub roots_more : (old now next : Space) (roots now_roots next_roots : List Root) (index w w' : ℕ)
-    → ((s : From) (t : ℕ) → s.roots ≡ words_of roots → Midway s t old → RootsSoFar s t old now roots now_roots index)
+    → ((s : From) (t : ℕ) → s.roots ≡ words_of_roots roots → Midway s t old → RootsSoFar s t old now roots now_roots index)
     → length now_roots ≡ length roots → index < length roots → w ≡ (root_at now_roots index).word
     → ((s : From) (t : ℕ) → Midway s t now → Known s w → Forwards s t now next w w') → next_roots ≡ with_word_at now_roots index w'
-    → (s : From) (t : ℕ) → s.roots ≡ words_of roots → Midway s t old → RootsSoFar s t old next roots next_roots (index + 1)
+    → (s : From) (t : ℕ) → s.roots ≡ words_of_roots roots → Midway s t old → RootsSoFar s t old next roots next_roots (index + 1)
 roots_more old now next roots now_roots next_roots index w w' along len less is forwards set s t roots_are mid =
     let so_far = along s t roots_are mid in
     let known = known_root s t now roots index w roots_are so_far.mid less (is ∙ ap (λ r. r.word) (so_far.rest index (omega arith))) in
@@ -159,7 +159,7 @@ roots_more old now next roots now_roots next_roots index w w' along len less is 
 
 -- it counts one, since it isn't null
 pub present_more : (old now : Space) (roots now_roots : List Root) (index w : ℕ)
-    → ((s : From) (t : ℕ) → s.roots ≡ words_of roots → Midway s t old → RootsSoFar s t old now roots now_roots index)
+    → ((s : From) (t : ℕ) → s.roots ≡ words_of_roots roots → Midway s t old → RootsSoFar s t old now roots now_roots index)
     → CanForwardRoots old roots → index < length roots → w ≡ (root_at now_roots index).word → 0 < w
     → length (present_words (drop index roots)) ≡ length (present_words (drop (index + 1) roots)) + 1
 present_more old now roots now_roots index w along can less is some =

@@ -8,20 +8,21 @@ use Rattle.gc_memory.specs.Lists.{In, here, there}
 use Rattle.gc_memory.proofs.WordLemmas.{word-is}
 use Rattle.gc_copying.specs.declared.space.Space.{Space}
 use Rattle.gc_copying.specs.Spaces.{half_first, half_end}
-use Rattle.gc_copying.specs.CopyWords.{size_at, IsPlaceWord}
+use Rattle.gc_copying.specs.CopyWords.{IsCopyingPlace}
 use Rattle.gc_heap.specs.References.{Spaced}
-use Rattle.gc_copying.specs.CopyStart.{From, IsWord, refs, by_field}
-use Rattle.gc_copying.specs.CopyMiddle.{Leads, Moves}
-use Rattle.gc_copying.specs.CopySteps.{Midway, Known, SameSides, Forwards, Scanning, CanScan, CanScanAt, Scans, ScansAll}
+use Rattle.gc_copying.specs.CopyStart.{From, IsCopyingWord, refs, by_field}
+use Rattle.gc_copying.specs.CopyMiddle.{IsCopiedTo, Moves}
+use Rattle.gc_copying.specs.CopySteps.{Midway, Known, SameSides, Forwards, Scanning, CanScanCopy, CanScanAt, Scans, ScansAll}
 use Rattle.gc_copying.proofs.MoreBytes.{wrote_word, word_written}
 use Rattle.gc_copying.proofs.MidLemmas.{new_lies}
 use Rattle.gc_heap.proofs.SpacedLemmas.{Spaced-in}
 use Rattle.gc_copying.proofs.CopyKeeps.{copy_range}
 use Rattle.gc_copying.proofs.ScanKeeps.{mid_written, write_later, mid_advanced}
 use Rattle.gc_copying.proofs.ForwardLemmas.{midway}
+use Rattle.gc_copying.specs.Layout.{copying_size_at}
 
 -- a place word of a field or a root is one of the places
-pub place_of_word : (s : From) (w : ℕ) → IsWord s w → IsPlaceWord w → In w s.places
+pub place_of_word : (s : From) (w : ℕ) → IsCopyingWord s w → IsCopyingPlace w → In w s.places
 place_of_word s w (inl e) place = absurd (let h = place.not_null in omega arith)
 place_of_word s w (inr (inl e)) place = absurd (let h = place.even in omega arith)
 place_of_word s w (inr (inr i)) place = i
@@ -44,7 +45,7 @@ field_as_old s p q u o left h scan = (scan.mid.copied p q scan.leads).copy.to_do
 pub known_field : (s : From) (p q u o : ℕ) (left : List ℕ) (h : Space) (w : ℕ) → Scanning s p q u (o ∷ left) h → w ≡ u32_at h.memory (q + o) → Known s w
 known_field s p q u o left h w scan read place =
     let is : w ≡ word s.memory (p + o) = read ∙ sym (word-is h.memory (q + o)) ∙ field_as_old s p q u o left h scan in
-    let word_is : IsWord s w = subst (λ (x : ℕ). IsWord s x) (sym is) (scan.mid.start.fields p o scan.leads.place (scan.part o here)) in
+    let word_is : IsCopyingWord s w = subst (λ (x : ℕ). IsCopyingWord s x) (sym is) (scan.mid.start.fields p o scan.leads.place (scan.part o here)) in
     let i = place_of_word s w word_is place in
     (i, by_field i (scan.mid.copied p q scan.leads).reached o (scan.part o here) (sym is))
 
@@ -66,7 +67,7 @@ pub scans_field : (s : From) (p q u o : ℕ) (left : List ℕ) (h h1 h2 : Space)
     → Scanning s p q u (o ∷ left) h → Scans s p q (o + 4) left h h2
 scans_field s p q u o left h h1 h2 w w' forwards read small wrote upper bump objects scan =
     let f = forwards s (q + u) scan.mid (known_field s p q u o left h w scan read) in
-    let leads : Leads s h1.memory p q = f.later p q scan.leads in
+    let leads : IsCopiedTo s h1.memory p q = f.later p q scan.leads in
     let inside = field_inside s p q u o left h scan in
     let len : length h1.memory ≡ length h.memory = f.mid.same_length ∙ sym scan.mid.same_length in
     let room : q + o + 4 ≤ length h1.memory = omega (arith, inside.3) in
@@ -78,7 +79,7 @@ scans_field s p q u o left h h1 h2 w w' forwards read small wrote upper bump obj
     let limit = half_end (length h1.memory) h1.upper in
     let i = scan.part o here in
     let le : u ≤ o = scan.spaced.0 in
-    let done = λ (o1 : ℕ) (j : In o1 (refs s p)). done_before u (size_at s.memory p) o left o1 scan.spaced (scan.done o1 j) in
+    let done = λ (o1 : ℕ) (j : In o1 (refs s p)). done_before u (copying_size_at s.memory p) o left o1 scan.spaced (scan.done o1 j) in
     let later = write_later s h1.memory h2.memory base h1.bump limit h1.objects p q u o w' f.mid leads i le done changed now moves in
     record {
       scanning = record {
@@ -110,7 +111,7 @@ going_start h q all count = record {
 }
 
 -- the next reference may be scanned
-pub going_can : (old now : Space) (q : ℕ) (all left : List ℕ) (o counted count : ℕ) → Going old now q all (o ∷ left) counted count → CanScan old q all → CanScanAt now q o
+pub going_can : (old now : Space) (q : ℕ) (all left : List ℕ) (o counted count : ℕ) → Going old now q all (o ∷ left) counted count → CanScanCopy old q all → CanScanAt now q o
 going_can old now q all left o counted count going can =
     let r = going.scans can.start can.place can.from can.scanning in
     record { start = can.start; place = can.place; from = r.0; left = left; scanning = r.1.scanning }
@@ -133,9 +134,9 @@ none_in : (x : ℕ) → In x [] → ⊥
 none_in x i = elim i [ ]
 
 -- nothing is left of the copy
-pub scanned_all : (s : From) (p q u : ℕ) (h : Space) → Scanning s p q u [] h → Midway s (q + size_at s.memory p) h
+pub scanned_all : (s : From) (p q u : ℕ) (h : Space) → Scanning s p q u [] h → Midway s (q + copying_size_at s.memory p) h
 scanned_all s p q u h scan =
-    mid_advanced s h.memory _ h.bump _ h.objects p q u (size_at s.memory p) scan.mid scan.leads scan.to (omega arith)
+    mid_advanced s h.memory _ h.bump _ h.objects p q u (copying_size_at s.memory p) scan.mid scan.leads scan.to (omega arith)
     (λ o i. elim (scan.done o i) [ inl l ↦ inl l | inr j ↦ absurd (none_in o j) ])
 
 -- all references were moved

@@ -19,36 +19,36 @@ use Rattle.gc_heap.specs.Content.{IsHeld, half_of}
 use Rattle.gc_heap.specs.Collection.{Start, IsWordOf, CanCollect}
 use Rattle.gc_heap.specs.Collection as content
 use Rattle.gc_copying.specs.Spaces.{half_start, half_end, half_first}
-use Rattle.gc_copying.specs.Layout.{first_place, size_at, places_in, kind_at, object_at}
-use Rattle.gc_copying.specs.Content.{Linked, last, link, IsWhole}
-use Rattle.gc_copying.specs.ObjectLaws.{held_size-at, held_only, FoundAt}
+use Rattle.gc_copying.specs.Layout.{copying_first_place, copying_size_at, places_in, copying_kind_at, copying_object_at}
+use Rattle.gc_copying.specs.Content.{CopyingLinked, last, link, IsCopyingWhole}
+use Rattle.gc_copying.specs.ObjectLaws.{held_size-copying, held_only, FoundAt}
 use Rattle.gc_copying.proofs.ObjectLemmas.{held_in}
 use Rattle.gc_copying.specs.HeapLaws.{nothing, sixteen, skips, half_lies, first_aligned, LiesInSpace, lies_in_space}
-use Rattle.gc_copying.specs.CopyWords.{offsets_at, IsExternal}
-use Rattle.gc_copying.specs.CopyStart.{From, IsFrom, IsWord, ListsExternals}
+use Rattle.gc_copying.specs.CopyWords.{copying_offsets_at, IsCopyingExternal}
+use Rattle.gc_copying.specs.CopyStart.{From, IsFrom, IsCopyingWord, ListsExternals}
 use Rattle.gc_copying.specs.CopyStart as start
-use Rattle.gc_copying.specs.CopySteps.{words_of}
-use Rattle.gc_copying.specs.CopyBetween.{start_of, BeginsIn}
+use Rattle.gc_copying.specs.CopySteps.{words_of_roots}
+use Rattle.gc_copying.specs.CopyBetween.{start_in_bytes, CopyingBeginsIn}
 use Rattle.gc_heap.proofs.SpacedLemmas.{Spaced-in}
 use Rattle.gc_copying.proofs.ReferenceLemmas.{field_word, same_form, refs_are, refs_fields, external_none, refs_spaced}
 use Rattle.gc_heap.proofs.ReferenceLemmas.{outside, by_bits, by_length, by_type, form_is}
 use Rattle.gc_memory.proofs.ListLemmas.{only_item, contains_in, in_contains, map_in, in_map}
 
 -- the words of roots, and the roots of words
-pub word_of_root : (rs : List Root) (r : Root) → Contains rs r → In r.word (words_of rs)
+pub word_of_root : (rs : List Root) (r : Root) → Contains rs r → In r.word (words_of_roots rs)
 word_of_root [] r c = absurd (omega (arith, c.1))
 word_of_root (x ∷ rs) r c = elim (Contains-append_cases (x ∷ []) rs r c) [
-  | inl one ↦ subst (λ (y : Root). In y.word (words_of (x ∷ rs))) (only_item x r one) here
+  | inl one ↦ subst (λ (y : Root). In y.word (words_of_roots (x ∷ rs))) (only_item x r one) here
   | inr rest ↦ there (word_of_root rs r rest)
 ]
 
-pub root_of_word : (rs : List Root) (w : ℕ) → In w (words_of rs) → (r : Root) × (Contains rs r × (r.word ≡ w))
+pub root_of_word : (rs : List Root) (w : ℕ) → In w (words_of_roots rs) → (r : Root) × (Contains rs r × (r.word ≡ w))
 root_of_word [] w i = elim i [ ]
 root_of_word (x ∷ rs) _ here = (x, ((0, omega arith, refl), refl))
 root_of_word (x ∷ rs) w (there i) = let r = root_of_word rs w i in (r.0, (Contains-append_right (x ∷ []) rs r.0 r.1.0, r.1.1))
 
 -- in whole pages both ways to skip the first bytes agree
-pub first_same : (n : ℕ) (upper : Bool) → n % page ≡ 0 → first_place n upper ≡ half_first n upper
+pub first_same : (n : ℕ) (upper : Bool) → n % page ≡ 0 → copying_first_place n upper ≡ half_first n upper
 first_same n upper pages = elim (cases_eq n 0) [
   | inl e ↦
       let none : half_of n ≡ 0 = omega arith in
@@ -59,20 +59,20 @@ first_same n upper pages = elim (cases_eq n 0) [
 ]
 
 -- the kind word of an external object
-pub external_bits_are : (m : List ℕ) (p : ℕ) → kind_bits (kind_at m p) ≡ kind_part (word m p) → kind_at m p ≡ ExternRef → IsExternal m p
+pub external_bits_are : (m : List ℕ) (p : ℕ) → kind_bits (copying_kind_at m p) ≡ kind_part (word m p) → copying_kind_at m p ≡ ExternRef → IsCopyingExternal m p
 external_bits_are m p kind is =
     let e : kind_bits ExternRef ≡ kind_part (word m p) = subst (λ k. kind_bits k ≡ kind_part (word m p)) is kind in
     omega arith
 
-pub kind_by_bits : (m : List ℕ) (p : ℕ) → IsExternal m p → kind_at m p ≡ ExternRef
-unfolding kind_at
+pub kind_by_bits : (m : List ℕ) (p : ℕ) → IsCopyingExternal m p → copying_kind_at m p ≡ ExternRef
+unfolding copying_kind_at
 kind_by_bits m p e = ap (λ (q : ℕ). kind_of (q * spare_bits)) e
 
-linked_so : (m : List ℕ) (head : ℕ) (ps : List ℕ) → Linked m head ps → start.Linked m head ps
+linked_so : (m : List ℕ) (head : ℕ) (ps : List ℕ) → CopyingLinked m head ps → start.NextExternals m head ps
 linked_so m _ [] last = start.none
 linked_so m _ (p ∷ ps) (link some l) = start.link some (linked_so m (word m (p + 20)) ps l)
 
-low_by : (n : ℕ) (upper : Bool) (bump : ℕ) → bump ≤ half_end n upper → 0 < bump → 16 ≤ first_place n upper
+low_by : (n : ℕ) (upper : Bool) (bump : ℕ) → bump ≤ half_end n upper → 0 < bump → 16 ≤ copying_first_place n upper
 low_by n upper bump inside some = elim (skips n upper) [
   | nothing e skip begins half ↦ absurd (omega arith)
   | sixteen more skip ↦ omega arith
@@ -82,70 +82,70 @@ small_form : (w : ℕ) → w % spare_bits < 2 ^ 25 → w / 33554432 % 2 ≡ 0
 small_form w h = omega arith
 
 -- no whole object's trace word has the fourth form
-whole_form : (m : List ℕ) (p : ℕ) → IsWhole m p → form_of (word m p) ≡ 3 → ⊥
+whole_form : (m : List ℕ) (p : ℕ) → IsCopyingWhole m p → form_of (word m p) ≡ 3 → ⊥
 whole_form m p whole three =
     let same : form_of (word m p % spare_bits) ≡ form_of (word m p) = same_form (word m p) in
-    elim (form_is (object_at m p) (kind_at m p) whole.spare.1) [
+    elim (form_is (copying_object_at m p) (copying_kind_at m p) whole.spare.1) [
       | outside is none ↦ omega arith
       | by_bits fields form all ↦ omega arith
       | by_length is form all ↦ omega arith
       | by_type fields form ↦ omega arith
     ]
 
-module _ (s : Start) (m : List ℕ) (upper : Bool) (bump head objects scopes : ℕ) (b : BeginsIn s m upper bump head objects scopes) where
+module _ (s : Start) (m : List ℕ) (upper : Bool) (bump head objects scopes : ℕ) (b : CopyingBeginsIn s m upper bump head objects scopes) where
   abbrev pub from : From
-  from = start_of s m upper bump head
+  from = start_in_bytes s m upper bump head
 
   pub lies_so : (p : ℕ) → In p (places_in m upper bump) → LiesInSpace m upper bump p
   lies_so p i = lies_in_space m upper bump head objects p b.space i
 
   -- the object at a place
-  pub held : (p : ℕ) → In p (places_in m upper bump) → finite.get s.heap.content p ≡ Some (object_at m p)
+  pub held : (p : ℕ) → In p (places_in m upper bump) → finite.get s.heap.content p ≡ Some (copying_object_at m p)
   held p i = ap (λ (h : HeapView). finite.get h.content p) (sym b.heap_is) ∙ held_in m p (places_in m upper bump) i
 
   pub found : (p : ℕ) (o : HeapObject) → finite.get s.heap.content p ≡ Some o → FoundAt m (places_in m upper bump) p o
   found p o e = held_only m p o (places_in m upper bump) (ap (λ (h : HeapView). finite.get h.content p) b.heap_is ∙ e)
 
   pub is_held : (p : ℕ) → In p (places_in m upper bump) → IsHeld s.heap p
-  is_held p i = (object_at m p, held p i)
+  is_held p i = (copying_object_at m p, held p i)
 
   pub held_place : (p : ℕ) → IsHeld s.heap p → In p (places_in m upper bump)
   held_place p h = (found p h.0 h.1).among
 
   -- its references
-  pub refs_so : (p : ℕ) → In p (places_in m upper bump) → reference_offsets Copying s.types (object_at m p) ≡ offsets_at s.types m p
+  pub refs_so : (p : ℕ) → In p (places_in m upper bump) → reference_offsets Copying s.types (copying_object_at m p) ≡ copying_offsets_at s.types m p
   refs_so p i = let l = lies_so p i in refs_are s.types m p (b.space.whole p i) l.least l.inside
 
-  pub spaced_so : (p : ℕ) → In p (places_in m upper bump) → Spaced 12 (size_at m p) (offsets_at s.types m p)
+  pub spaced_so : (p : ℕ) → In p (places_in m upper bump) → Spaced 12 (copying_size_at m p) (copying_offsets_at s.types m p)
   spaced_so p i =
       let l = lies_so p i in
       let w = b.space.whole p i in
-      let s1 : Spaced 12 (held_size Copying (object_at m p)) (reference_offsets Copying s.types (object_at m p)) = refs_spaced s.types (object_at m p) w.spare (b.can.typed p (object_at m p) (held p i)) in
-      let s2 : Spaced 12 (size_at m p) (reference_offsets Copying s.types (object_at m p)) = subst (λ n. Spaced 12 n (reference_offsets Copying s.types (object_at m p))) (held_size-at m p w l.inside) s1 in
-      subst (Spaced 12 (size_at m p)) (refs_so p i) s2
+      let s1 : Spaced 12 (held_size Copying (copying_object_at m p)) (reference_offsets Copying s.types (copying_object_at m p)) = refs_spaced s.types (copying_object_at m p) w.spare (b.can.typed p (copying_object_at m p) (held p i)) in
+      let s2 : Spaced 12 (copying_size_at m p) (reference_offsets Copying s.types (copying_object_at m p)) = subst (λ n. Spaced 12 n (reference_offsets Copying s.types (copying_object_at m p))) (held_size-copying m p w l.inside) s1 in
+      subst (Spaced 12 (copying_size_at m p)) (refs_so p i) s2
 
-  pub ref_fields : (p o : ℕ) → In p (places_in m upper bump) → In o (offsets_at s.types m p) → HasFields (kind_at m p)
-  ref_fields p o i j = refs_fields s.types (object_at m p) o (b.space.whole p i).spare.1 (subst (In o) (sym (refs_so p i)) j)
+  pub ref_fields : (p o : ℕ) → In p (places_in m upper bump) → In o (copying_offsets_at s.types m p) → HasFields (copying_kind_at m p)
+  ref_fields p o i j = refs_fields s.types (copying_object_at m p) o (b.space.whole p i).spare.1 (subst (In o) (sym (refs_so p i)) j)
 
-  pub word_so : (p o : ℕ) → In p (places_in m upper bump) → In o (offsets_at s.types m p) → word_in Copying (object_at m p) o ≡ word m (p + o)
+  pub word_so : (p o : ℕ) → In p (places_in m upper bump) → In o (copying_offsets_at s.types m p) → word_in Copying (copying_object_at m p) o ≡ word m (p + o)
   word_so p o i j =
-      let inside = Spaced-in 12 (size_at m p) (offsets_at s.types m p) o (spaced_so p i) j in
-      field_word m p o (kind_at m p) (ref_fields p o i j) inside.0 inside.1 (lies_so p i).inside
+      let inside = Spaced-in 12 (copying_size_at m p) (copying_offsets_at s.types m p) o (spaced_so p i) j in
+      field_word m p o (copying_kind_at m p) (ref_fields p o i j) inside.0 inside.1 (lies_so p i).inside
 
-  pub names : (p o : ℕ) → In p (places_in m upper bump) → In o (offsets_at s.types m p) → Contains (references Copying s.types (object_at m p)) (word m (p + o))
+  pub names : (p o : ℕ) → In p (places_in m upper bump) → In o (copying_offsets_at s.types m p) → Contains (references Copying s.types (copying_object_at m p)) (word m (p + o))
   names p o i j =
-      subst (Contains (references Copying s.types (object_at m p))) (word_so p o i j)
-      (in_contains (references Copying s.types (object_at m p)) (word_in Copying (object_at m p) o)
-      (map_in (word_in Copying (object_at m p)) (reference_offsets Copying s.types (object_at m p)) o (subst (In o) (sym (refs_so p i)) j)))
+      subst (Contains (references Copying s.types (copying_object_at m p))) (word_so p o i j)
+      (in_contains (references Copying s.types (copying_object_at m p)) (word_in Copying (copying_object_at m p) o)
+      (map_in (word_in Copying (copying_object_at m p)) (reference_offsets Copying s.types (copying_object_at m p)) o (subst (In o) (sym (refs_so p i)) j)))
 
   -- a word of an object is a reference's
-  pub named_by : (p w : ℕ) → In p (places_in m upper bump) → Contains (references Copying s.types (object_at m p)) w → (o : ℕ) × (In o (offsets_at s.types m p) × (word m (p + o) ≡ w))
+  pub named_by : (p w : ℕ) → In p (places_in m upper bump) → Contains (references Copying s.types (copying_object_at m p)) w → (o : ℕ) × (In o (copying_offsets_at s.types m p) × (word m (p + o) ≡ w))
   named_by p w i c =
-      let r = in_map (word_in Copying (object_at m p)) (reference_offsets Copying s.types (object_at m p)) w (contains_in _ w c) in
-      let j : In r.0 (offsets_at s.types m p) = subst (In r.0) (refs_so p i) r.1.0 in
+      let r = in_map (word_in Copying (copying_object_at m p)) (reference_offsets Copying s.types (copying_object_at m p)) w (contains_in _ w c) in
+      let j : In r.0 (copying_offsets_at s.types m p) = subst (In r.0) (refs_so p i) r.1.0 in
       (r.0, (j, sym (word_so p r.0 i j) ∙ r.1.1))
 
-  word_is : (w : ℕ) → IsWordOf s.heap w → IsWord from w
+  word_is : (w : ℕ) → IsWordOf s.heap w → IsCopyingWord from w
   word_is w (inl e) = inl e
   word_is w (inr (inl odd)) = inr (inl odd)
   word_is w (inr (inr h)) = inr (inr (held_place w h))
@@ -174,28 +174,28 @@ module _ (s : Start) (m : List ℕ) (upper : Bool) (bump head objects scopes : �
         fresh = λ p i. small_form (word m p) (b.space.whole p i).spare.0;
         form = λ p i three. whole_form m p (b.space.whole p i) three;
         spaced = spaced_so;
-        fields = λ p o i j. word_is (word m (p + o)) (b.can.fields p (object_at m p) (word m (p + o)) (held p i) (names p o i j));
+        fields = λ p o i j. word_is (word m (p + o)) (b.can.fields p (copying_object_at m p) (word m (p + o)) (held p i) (names p o i j));
         roots = λ w i. let r = root_of_word s.roots w i in word_is w (subst (IsWordOf s.heap) r.1.1 (b.can.roots r.0 r.1.0));
         externals = externals_so;
         external_size = λ p i e. let x = ((b.space.whole p i).external (kind_by_bits m p e)).size in omega arith;
-        external_refs = λ p i e. sym (refs_so p i) ∙ external_none s.types (object_at m p) (kind_by_bits m p e) (b.space.whole p i).spare.1;
+        external_refs = λ p i e. sym (refs_so p i) ∙ external_none s.types (copying_object_at m p) (kind_by_bits m p e) (b.space.whole p i).spare.1;
         hosts = λ p i e. let x = (b.space.whole p i).external (kind_by_bits m p e) in (x.from, x.to);
       }
 
   -- what is reached, in objects and in bytes
-  pub reached_so : (p : ℕ) → content.Reached Copying s p → start.Reached from p
-  reached_so p (content.by_root h r c e) = start.by_root (held_place p h) (subst (λ w. In w (words_of s.roots)) e (word_of_root s.roots r c))
+  pub reached_so : (p : ℕ) → content.ReachedPlace Copying s p → start.CopyingReached from p
+  reached_so p (content.by_root h r c e) = start.by_root (held_place p h) (subst (λ w. In w (words_of_roots s.roots)) e (word_of_root s.roots r c))
   reached_so p (content.by_field h {from = q} r o got c) =
       let f = found q o got in
       let n = named_by q p f.among (subst (λ (x : HeapObject). Contains (references Copying s.types x) p) f.is c) in
       start.by_field (held_place p h) (reached_so q r) n.0 n.1.0 n.1.1
 
-  pub reached_in : (p : ℕ) → start.Reached from p → In p (places_in m upper bump)
+  pub reached_in : (p : ℕ) → start.CopyingReached from p → In p (places_in m upper bump)
   reached_in p (start.by_root i j) = i
   reached_in p (start.by_field i r o j e) = i
 
-  pub reached_back : (p : ℕ) → start.Reached from p → content.Reached Copying s p
+  pub reached_back : (p : ℕ) → start.CopyingReached from p → content.ReachedPlace Copying s p
   reached_back p (start.by_root i j) = let r = root_of_word s.roots p j in content.by_root (is_held p i) r.0 r.1.0 r.1.1
   reached_back p (start.by_field i {from = q} r o j e) =
       let k = reached_in q r in
-      content.by_field (is_held p i) (reached_back q r) (object_at m q) (held q k) (subst (Contains (references Copying s.types (object_at m q))) e (names q o k j))
+      content.by_field (is_held p i) (reached_back q r) (copying_object_at m q) (held q k) (subst (Contains (references Copying s.types (copying_object_at m q))) e (names q o k j))

@@ -16,17 +16,18 @@ use Rattle.gc_memory.proofs.WordLemmas.{word-is, word_in_same, word_apart, word_
 use Rattle.gc_heap.specs.Collection.{IsPartOf}
 use Rattle.gc_copying.specs.declared.space.Space.{Space}
 use Rattle.gc_copying.specs.Spaces.{half_first, half_end}
-use Rattle.gc_copying.specs.CopyWords.{flag, size_at, forwarding, host_word, next_external, IsExternal, copied_unit}
-use Rattle.gc_copying.specs.CopyStart.{From, Linked, none, link}
-use Rattle.gc_copying.specs.CopyMiddle.{Leads, Mid}
+use Rattle.gc_copying.specs.CopyWords.{flag, forwarding, copying_host_word, next_external, IsCopyingExternal, copied_unit}
+use Rattle.gc_copying.specs.CopyStart.{From, NextExternals, none, link}
+use Rattle.gc_copying.specs.CopyMiddle.{IsCopiedTo, Mid}
 use Rattle.gc_copying.specs.CopySteps.{Midway}
 use Rattle.gc_heap.specs.FreedHosts.{FreesHost, IsHostWord}
-use Rattle.gc_copying.specs.CopySweep.{CanSweepOne, ListsCopy, Sweeps}
+use Rattle.gc_copying.specs.CopySweep.{CanSweepExternal, ListsCopy, Sweeps}
 use Rattle.gc_copying.proofs.MoreBytes.{wrote_word, word_written}
 use Rattle.gc_copying.proofs.MidLemmas.{lies, new_lies, halves_apart, no_both}
 use Rattle.gc_copying.proofs.CopyKeeps.{copy_range}
 use Rattle.gc_copying.proofs.ScanKeeps.{new_apart}
 use Rattle.gc_copying.proofs.FewLemmas.{few, count_links, linked_count}
+use Rattle.gc_copying.specs.Layout.{copying_size_at}
 
 -- a byte is before or behind the link of each of these copies
 abbrev pub IsNoLink : List ℕ → ℕ → Type 0
@@ -37,18 +38,18 @@ pub record Swept (s : From) (listed : List ℕ) (m1 m : List ℕ) (head e : ℕ)
   pub rest : List ℕ
   pub made : List ℕ
   pub split : listed ≡ gone ++ rest
-  pub linked : Linked s.memory e rest
+  pub linked : NextExternals s.memory e rest
   pub same_length : length m ≡ length m1
-  pub made_linked : Linked m head made
-  pub made_only : (q : ℕ) → In q made → (p : ℕ) × (In p gone × Leads s m1 p q)
-  pub made_all : (p q : ℕ) → In p gone → Leads s m1 p q → In q made
+  pub made_linked : NextExternals m head made
+  pub made_only : (q : ℕ) → In q made → (p : ℕ) × (In p gone × IsCopiedTo s m1 p q)
+  pub made_all : (p q : ℕ) → In p gone → IsCopiedTo s m1 p q → In q made
   pub once : (q : ℕ) → occ q made ≤ 1
   pub same : (j d : ℕ) → IsNoLink made j → get_or m j d ≡ get_or m1 j d
 
 -- of those that are gone the values of those that were not copied are freed
 pub record HostsGone (s : From) (D : Type 0) (m1 : List ℕ) (gone : List ℕ) (old now : finite.FinMap nat_cmp D) : Type 0 where
-  pub lost : (p : ℕ) → In p gone → flag m1 p ≡ 0 → finite.get now (host_word s.memory p - 1) ≡ None
-  pub kept : (id : ℕ) → ((p : ℕ) → In p gone → flag m1 p ≡ 0 → host_word s.memory p ≡ id + 1 → ⊥) → finite.get now id ≡ finite.get old id
+  pub lost : (p : ℕ) → In p gone → flag m1 p ≡ 0 → finite.get now (copying_host_word s.memory p - 1) ≡ None
+  pub kept : (id : ℕ) → ((p : ℕ) → In p gone → flag m1 p ≡ 0 → copying_host_word s.memory p ≡ id + 1 → ⊥) → finite.get now id ≡ finite.get old id
   pub part : IsPartOf now old
 
 flag_zero : (w : ℕ) → (w / copied_unit % 2 ≡ 1 → ⊥) → w / copied_unit % 2 ≡ 0
@@ -62,27 +63,27 @@ pub not_in_nil : (x : ℕ) → In x [] → ⊥
 not_in_nil x i = elim i [ ]
 
 -- one of a linked list is the first, or of the rest
-pub linked_none : (m ps : List ℕ) → Linked m 0 ps → ps ≡ []
+pub linked_none : (m ps : List ℕ) → NextExternals m 0 ps → ps ≡ []
 linked_none m [] none = refl
 linked_none m (_ ∷ ps) (link some l) = absurd (omega arith)
 
 pub record Head (m : List ℕ) (e : ℕ) (ps : List ℕ) : Type 0 where
   pub rest : List ℕ
   pub is : ps ≡ e ∷ rest
-  pub linked : Linked m (next_external m e) rest
+  pub linked : NextExternals m (next_external m e) rest
 
-pub linked_head : (m ps : List ℕ) (e : ℕ) → Linked m e ps → (e ≡ 0 → ⊥) → Head m e ps
+pub linked_head : (m ps : List ℕ) (e : ℕ) → NextExternals m e ps → (e ≡ 0 → ⊥) → Head m e ps
 linked_head m [] _ none ne = absurd (ne refl)
 linked_head m (_ ∷ ps) _ (link some l) ne = record { rest = ps; is = refl; linked = l }
 
 -- links that are equal link the same
-pub linked_same : (m m' ps : List ℕ) (e : ℕ) → Linked m e ps → ((p : ℕ) → In p ps → next_external m' p ≡ next_external m p) → Linked m' e ps
+pub linked_same : (m m' ps : List ℕ) (e : ℕ) → NextExternals m e ps → ((p : ℕ) → In p ps → next_external m' p ≡ next_external m p) → NextExternals m' e ps
 linked_same m m' [] _ none same = none
 linked_same m m' (_ ∷ ps) e (link some l) same =
-    link some (subst (λ (x : ℕ). Linked m' x ps) (sym (same e here)) (linked_same m m' ps (next_external m e) l (λ p i. same p (there i))))
+    link some (subst (λ (x : ℕ). NextExternals m' x ps) (sym (same e here)) (linked_same m m' ps (next_external m e) l (λ p i. same p (there i))))
 
 -- the first of a linked list, where there is one
-pub linked_first : (m ps : List ℕ) (e : ℕ) → Linked m e ps → (e ≡ 0) ⊎ In e ps
+pub linked_first : (m ps : List ℕ) (e : ℕ) → NextExternals m e ps → (e ≡ 0) ⊎ In e ps
 linked_first m [] _ none = inl refl
 linked_first m (_ ∷ ps) _ (link some l) = inr here
 
@@ -98,17 +99,17 @@ module _ (s : From) (m1 : List ℕ) (base bump limit count : ℕ) (mid : Mid s m
   -- a copy of an external object is long enough for its link
   pub record IsMade (gone : List ℕ) (q : ℕ) : Type 0 where
     pub source : ℕ
-    pub leads : Leads s m1 source q
+    pub leads : IsCopiedTo s m1 source q
     pub was_gone : In source gone
     pub inside : In q mid.news
-    pub long : 32 ≤ size_at m1 q
+    pub long : 32 ≤ copying_size_at m1 q
     pub from : base ≤ q
-    pub to : q + size_at m1 q ≤ bump
+    pub to : q + copying_size_at m1 q ≤ bump
 
   in_listed : (gone rest : List ℕ) (p : ℕ) → mid.start.externals.listed ≡ gone ++ rest → In p gone → In p mid.start.externals.listed
   in_listed gone rest p split i = subst (λ l. In p l) (sym split) (In-left p gone rest i)
 
-  copy_long : (p q : ℕ) → Leads s m1 p q → In p mid.start.externals.listed → 32 ≤ size_at m1 q
+  copy_long : (p q : ℕ) → IsCopiedTo s m1 p q → In p mid.start.externals.listed → 32 ≤ copying_size_at m1 q
   copy_long p q leads i =
       let is = mid.start.externals.only p i in
       omega (arith, copy_range mid p q leads, mid.start.external_size p is.0 is.1)
@@ -129,13 +130,13 @@ module _ (s : From) (m1 : List ℕ) (base bump limit count : ℕ) (mid : Mid s m
       }
 
   -- a word of an old object is as it was
-  pub old_word : (m : List ℕ) (head e : ℕ) (gone : List ℕ) → Swept s mid.start.externals.listed m1 m head e gone → (p o : ℕ) → In p s.places → o + 4 ≤ size_at s.memory p
+  pub old_word : (m : List ℕ) (head e : ℕ) (gone : List ℕ) → Swept s mid.start.externals.listed m1 m head e gone → (p o : ℕ) → In p s.places → o + 4 ≤ copying_size_at s.memory p
       → word m (p + o) ≡ word m1 (p + o)
   old_word m head e gone w p o i h =
       let at = lies mid p i in
       word_by_bytes m1 m (p + o) (p + o) (λ k l. w.same (p + o + k) 0 (λ q j.
       let made = made_is m head e gone w q j in
-      elim (halves_apart mid p (p + size_at s.memory p) q (q + 24) at.from at.to made.from (omega (arith, made.to, made.long, mid.room))) [
+      elim (halves_apart mid p (p + copying_size_at s.memory p) q (q + 24) at.from at.to made.from (omega (arith, made.to, made.long, mid.room))) [
         | inl a ↦ inl (omega arith)
         | inr a ↦ inr (omega arith)
       ]))
@@ -160,7 +161,7 @@ module _ (s : From) (m1 : List ℕ) (base bump limit count : ℕ) (mid : Mid s m
 
   -- its words are as they were at the start
   pub next_is : (m : List ℕ) (head e : ℕ) (gone : List ℕ) → (w : Swept s mid.start.externals.listed m1 m head e gone) → (h : Head s.memory e w.rest)
-      → (next_external m e ≡ next_external s.memory e) × (host_word m e ≡ host_word s.memory e) × (flag m e ≡ flag m1 e) × (forwarding m e ≡ forwarding m1 e)
+      → (next_external m e ≡ next_external s.memory e) × (copying_host_word m e ≡ copying_host_word s.memory e) × (flag m e ≡ flag m1 e) × (forwarding m e ≡ forwarding m1 e)
   next_is m head e gone w h =
       let is = mid.start.externals.only e (head_listed m head e gone w h) in
       let long = mid.start.external_size e is.0 is.1 in
@@ -173,14 +174,14 @@ module _ (s : From) (m1 : List ℕ) (base bump limit count : ℕ) (mid : Mid s m
       )
 
   -- where a copy is, it leads there
-  pub head_leads : (m : List ℕ) (head e : ℕ) (gone : List ℕ) → (w : Swept s mid.start.externals.listed m1 m head e gone) → (h : Head s.memory e w.rest) → flag m e ≡ 1 → Leads s m1 e (forwarding m e)
+  pub head_leads : (m : List ℕ) (head e : ℕ) (gone : List ℕ) → (w : Swept s mid.start.externals.listed m1 m head e gone) → (h : Head s.memory e w.rest) → flag m e ≡ 1 → IsCopiedTo s m1 e (forwarding m e)
   head_leads m head e gone w h one =
       let n = next_is m head e gone w h in
       let is = mid.start.externals.only e (head_listed m head e gone w h) in
       record { place = is.0; flagged = sym n.2 ∙ one; to = sym n.3 }
 
   -- it may be swept
-  pub head_can : (m : List ℕ) (head e : ℕ) (gone : List ℕ) → (w : Swept s mid.start.externals.listed m1 m head e gone) → (e ≡ 0 → ⊥) → CanSweepOne m e
+  pub head_can : (m : List ℕ) (head e : ℕ) (gone : List ℕ) → (w : Swept s mid.start.externals.listed m1 m head e gone) → (e ≡ 0 → ⊥) → CanSweepExternal m e
   head_can m head e gone w ne =
       let h = at_head m head e gone w ne in
       let listed = head_listed m head e gone w h in
@@ -220,14 +221,14 @@ module _ (s : From) (m1 : List ℕ) (base bump limit count : ℕ) (mid : Mid s m
       })))
 
   -- its copy is not listed yet
-  new_in_list : (m : List ℕ) (head e : ℕ) (gone : List ℕ) → (w : Swept s mid.start.externals.listed m1 m head e gone) → (h : Head s.memory e w.rest) → (q : ℕ) → Leads s m1 e q → In q w.made → ⊥
+  new_in_list : (m : List ℕ) (head e : ℕ) (gone : List ℕ) → (w : Swept s mid.start.externals.listed m1 m head e gone) → (h : Head s.memory e w.rest) → (q : ℕ) → IsCopiedTo s m1 e q → In q w.made → ⊥
   new_in_list m head e gone w h q leads i =
       let b = w.made_only q i in
       let one : b.0 ≡ e = mid.once b.0 e q b.1.1 leads in
       head_not_gone m head e gone w h (subst (λ (x : ℕ). In x gone) one b.1.0)
 
-  made_only_after : (m : List ℕ) (e q x : ℕ) (gone made : List ℕ) → Leads s m1 e q → ((y : ℕ) → In y made → (p : ℕ) × (In p gone × Leads s m1 p y))
-      → In x (q ∷ made) → (p : ℕ) × (In p (gone ++ (e ∷ [])) × Leads s m1 p x)
+  made_only_after : (m : List ℕ) (e q x : ℕ) (gone made : List ℕ) → IsCopiedTo s m1 e q → ((y : ℕ) → In y made → (p : ℕ) × (In p gone × IsCopiedTo s m1 p y))
+      → In x (q ∷ made) → (p : ℕ) × (In p (gone ++ (e ∷ [])) × IsCopiedTo s m1 p x)
   made_only_after m e _ _ gone made leads only here = (e, (In-right e gone (e ∷ []) here, leads))
   made_only_after m e q x gone made leads only (there i) = let b = only x i in (b.0, (In-left b.0 gone (e ∷ []) b.1.0, b.1.1))
 
@@ -238,10 +239,10 @@ module _ (s : From) (m1 : List ℕ) (base bump limit count : ℕ) (mid : Mid s m
       let h = at_head m head e gone w ne in
       let n = next_is m head e gone w h in
       let q = forwarding m e in
-      let leads : Leads s m1 e q = head_leads m head e gone w h one in
+      let leads : IsCopiedTo s m1 e q = head_leads m head e gone w h one in
       let inside : In q mid.news = (mid.copied e q leads).inside in
       let at = new_lies mid q inside in
-      let long : 32 ≤ size_at m1 q = copy_long e q leads (head_listed m head e gone w h) in
+      let long : 32 ≤ copying_size_at m1 q = copy_long e q leads (head_listed m head e gone w h) in
       let bounds : q + 24 ≤ length m = omega (arith, at.to, long, mid.room, mid.inside, w.same_length) in
       let small : length m < 2 ^ 32 = omega (arith, w.same_length, mid.same_length, mid.start.small) in
       let wrote : Wrote m m' (q + 20) 4 = wrote_word m m' (q + 20) head (omega arith) written in
@@ -265,7 +266,7 @@ module _ (s : From) (m1 : List ℕ) (base bump limit count : ℕ) (mid : Mid s m
         split = split_after m head e gone w h;
         linked = h.linked;
         same_length = wrote.same_length ∙ w.same_length;
-        made_linked = link positive (subst (λ (x : ℕ). Linked m' x w.made) (sym link_is) (linked_same m m' w.made head w.made_linked old_links));
+        made_linked = link positive (subst (λ (x : ℕ). NextExternals m' x w.made) (sym link_is) (linked_same m m' w.made head w.made_linked old_links));
         made_only = λ x i. made_only_after m e q x gone w.made leads w.made_only i;
         made_all = λ p x i l. elim (In-split p gone (e ∷ []) i) [
           | inl j ↦ there (w.made_all p x j l)
@@ -292,7 +293,7 @@ module _ (s : From) (m1 : List ℕ) (base bump limit count : ℕ) (mid : Mid s m
     rest = mid.start.externals.listed;
     made = [];
     split = refl;
-    linked = subst (λ (x : ℕ). Linked s.memory x mid.start.externals.listed) (sym is) mid.start.externals.linked;
+    linked = subst (λ (x : ℕ). NextExternals s.memory x mid.start.externals.listed) (sym is) mid.start.externals.linked;
     same_length = refl;
     made_linked = none;
     made_only = λ q i. elim i [ ];
@@ -303,7 +304,7 @@ module _ (s : From) (m1 : List ℕ) (base bump limit count : ℕ) (mid : Mid s m
 
   -- the host value of one that was not copied is freed
   pub hosts_freed : (D : Type 0) (m : List ℕ) (head e : ℕ) (old now now' : finite.FinMap nat_cmp D) (gone : List ℕ) → (w : Swept s mid.start.externals.listed m1 m head e gone) → (e ≡ 0 → ⊥)
-      → flag m e ≡ 0 → HostsGone s D m1 gone old now → FreesHost D now now' (host_word m e) → HostsGone s D m1 (gone ++ (e ∷ [])) old now'
+      → flag m e ≡ 0 → HostsGone s D m1 gone old now → FreesHost D now now' (copying_host_word m e) → HostsGone s D m1 (gone ++ (e ∷ [])) old now'
   hosts_freed D m head e old now now' gone w ne clear so_far frees =
       let h = at_head m head e gone w ne in
       let n = next_is m head e gone w h in
@@ -311,10 +312,10 @@ module _ (s : From) (m1 : List ℕ) (base bump limit count : ℕ) (mid : Mid s m
       let clear1 : flag m1 e ≡ 0 = sym n.2 ∙ clear in
       record {
         lost = λ p i f. elim (In-split p gone (e ∷ []) i) [
-          | inl j ↦ part_none now' now (host_word s.memory p - 1) frees.part (so_far.lost p j f)
+          | inl j ↦ part_none now' now (copying_host_word s.memory p - 1) frees.part (so_far.lost p j f)
           | inr j ↦
-              let at : host_word m e ≡ host_word s.memory p = n.1 ∙ ap (host_word s.memory) (sym (In-one p e j)) in
-              let is_host : IsHostWord (host_word m e) = subst (λ (x : ℕ). IsHostWord x) (sym n.1) (mid.start.hosts e is.0 is.1) in
+              let at : copying_host_word m e ≡ copying_host_word s.memory p = n.1 ∙ ap (copying_host_word s.memory) (sym (In-one p e j)) in
+              let is_host : IsHostWord (copying_host_word m e) = subst (λ (x : ℕ). IsHostWord x) (sym n.1) (mid.start.hosts e is.0 is.1) in
               ap (λ (x : ℕ). finite.get now' (x - 1)) (sym at) ∙ frees.lost is_host
         ];
         kept = λ id none_has.
@@ -339,7 +340,7 @@ module _ (s : From) (m1 : List ℕ) (base bump limit count : ℕ) (mid : Mid s m
       })
 
   -- the links that are left are there now
-  pub rest_linked : (m : List ℕ) (head e : ℕ) (gone : List ℕ) → (w : Swept s mid.start.externals.listed m1 m head e gone) → Linked m e w.rest
+  pub rest_linked : (m : List ℕ) (head e : ℕ) (gone : List ℕ) → (w : Swept s mid.start.externals.listed m1 m head e gone) → NextExternals m e w.rest
   rest_linked m head e gone w = linked_same s.memory m w.rest e w.linked (λ p i.
       let listed : In p mid.start.externals.listed = subst (λ l. In p l) (sym w.split) (In-right p gone w.rest i) in
       let is = mid.start.externals.only p listed in
@@ -350,9 +351,9 @@ module _ (s : From) (m1 : List ℕ) (base bump limit count : ℕ) (mid : Mid s m
   -- they are few
   pub rest_few : (m : List ℕ) (head e : ℕ) (gone : List ℕ) → (w : Swept s mid.start.externals.listed m1 m head e gone) → length w.rest ≤ length m
   rest_few m head e gone w =
-      let all = few mid.start.externals.listed s.places (λ p i. Chain-once (size_at s.memory) s.first s.end p s.places mid.start.chain (mid.start.externals.only p i).0) mid.start.externals.once in
+      let all = few mid.start.externals.listed s.places (λ p i. Chain-once (copying_size_at s.memory) s.first s.end p s.places mid.start.chain (mid.start.externals.only p i).0) mid.start.externals.once in
       let split : length mid.start.externals.listed ≡ length gone + length w.rest = ap (λ (l : List ℕ). length l) w.split ∙ length-append gone w.rest in
-      let places = Chain-length (size_at s.memory) s.first s.end s.places mid.start.chain in
+      let places = Chain-length (copying_size_at s.memory) s.first s.end s.places mid.start.chain in
       omega (arith, all, split, places, mid.start.inside, mid.same_length, w.same_length)
 
   pub links_left : (m : List ℕ) (head e : ℕ) (gone : List ℕ) → (w : Swept s mid.start.externals.listed m1 m head e gone) → count_links (length m) m e ≡ length w.rest
@@ -385,7 +386,7 @@ sweeps s D old new e before after gone mid w0 null hosts =
     subst (λ (x : ℕ). Swept s mid.start.externals.listed old.memory new.memory new.externals x gone) null w0 in
     let base = half_first (length old.memory) old.upper in
     let limit = half_end (length old.memory) old.upper in
-    let all = λ (p : ℕ) (i : In p s.places) (x : IsExternal s.memory p).
+    let all = λ (p : ℕ) (i : In p s.places) (x : IsCopyingExternal s.memory p).
     all_gone s old.memory base old.bump limit old.objects mid new.memory new.externals gone w p (mid.start.externals.all p i x) in
     record {
       same_length = w.same_length;
@@ -424,7 +425,7 @@ swept_to_start s D old mid first hosts is no_head = record {
 swept_more : (s : From) (D : Type 0) (old now next : Space) (mid : Midway s old.bump old) (e n : ℕ) (before after after' : finite.FinMap nat_cmp D)
     → (to : SweptTo s D old now mid e before after) → (e ≡ 0 → ⊥) → n ≡ u32_at now.memory (e + 20)
     → (flag now.memory e ≡ 1 → ListsCopy now next e × (after' ≡ after))
-    → (flag now.memory e ≡ 0 → FreesHost D after after' (host_word now.memory e) × ((next.memory ≡ now.memory) × (next.externals ≡ now.externals)))
+    → (flag now.memory e ≡ 0 → FreesHost D after after' (copying_host_word now.memory e) × ((next.memory ≡ now.memory) × (next.externals ≡ now.externals)))
     → Swept s mid.start.externals.listed old.memory next.memory next.externals n (to.gone ++ (e ∷ [])) × HostsGone s D old.memory (to.gone ++ (e ∷ [])) before after'
 swept_more s D old now next mid e n before after after' to ne read listed freed =
     let base = half_first (length old.memory) old.upper in
@@ -446,7 +447,7 @@ swept_more s D old now next mid e n before after after' to ne read listed freed 
 pub swept_next : (s : From) (D : Type 0) (old now next : Space) (mid : Midway s old.bump old) (e n : ℕ) (before after after' : finite.FinMap nat_cmp D)
     → (to : SweptTo s D old now mid e before after) → (e ≡ 0 → ⊥) → n ≡ u32_at now.memory (e + 20)
     → (flag now.memory e ≡ 1 → ListsCopy now next e × (after' ≡ after))
-    → (flag now.memory e ≡ 0 → FreesHost D after after' (host_word now.memory e) × ((next.memory ≡ now.memory) × (next.externals ≡ now.externals)))
+    → (flag now.memory e ≡ 0 → FreesHost D after after' (copying_host_word now.memory e) × ((next.memory ≡ now.memory) × (next.externals ≡ now.externals)))
     → SweptTo s D old next mid n before after'
 swept_next s D old now next mid e n before after after' to ne read listed freed =
     let more = swept_more s D old now next mid e n before after after' to ne read listed freed in
@@ -455,7 +456,7 @@ swept_next s D old now next mid e n before after after' to ne read listed freed 
 pub swept_less : (s : From) (D : Type 0) (old now next : Space) (mid : Midway s old.bump old) (e n : ℕ) (before after after' : finite.FinMap nat_cmp D)
     → (to : SweptTo s D old now mid e before after) → (e ≡ 0 → ⊥) → n ≡ u32_at now.memory (e + 20)
     → (flag now.memory e ≡ 1 → ListsCopy now next e × (after' ≡ after))
-    → (flag now.memory e ≡ 0 → FreesHost D after after' (host_word now.memory e) × ((next.memory ≡ now.memory) × (next.externals ≡ now.externals)))
+    → (flag now.memory e ≡ 0 → FreesHost D after after' (copying_host_word now.memory e) × ((next.memory ≡ now.memory) × (next.externals ≡ now.externals)))
     → count_links (length next.memory) next.memory n < count_links (length now.memory) now.memory e
 swept_less s D old now next mid e n before after after' to ne read listed freed =
     let more = swept_more s D old now next mid e n before after after' to ne read listed freed in
@@ -463,6 +464,6 @@ swept_less s D old now next mid e n before after after' to ne read listed freed 
     now.memory next.memory now.externals next.externals e n to.gone to.swept more.0
 
 pub swept_can : (s : From) (D : Type 0) (old now : Space) (mid : Midway s old.bump old) (e : ℕ) (before after : finite.FinMap nat_cmp D)
-    → (to : SweptTo s D old now mid e before after) → (e ≡ 0 → ⊥) → CanSweepOne now.memory e
+    → (to : SweptTo s D old now mid e before after) → (e ≡ 0 → ⊥) → CanSweepExternal now.memory e
 swept_can s D old now mid e before after to ne =
     head_can s old.memory (half_first (length old.memory) old.upper) old.bump (half_end (length old.memory) old.upper) old.objects mid now.memory now.externals e to.gone to.swept ne

@@ -3,8 +3,8 @@ use Rattle.gc_heap.specs.declared.backing.Backing as place
 use Rattle.gc_copying.specs.declared.growth.Marks.{Marks}
 use Rattle.gc_copying.specs.declared.space.Space.{Space}
 
-abbrev pub Backing : Type 0
-Backing = place.Backing Space Marks
+abbrev pub CopyingBacking : Type 0
+CopyingBacking = place.Backing Space Marks
 
-abbrev pub marks_of : Space → Marks
-marks_of s = record { upper = s.upper; bump = s.bump; externals = s.externals; objects = s.objects }
+abbrev pub copying_marks_of : Space → Marks
+copying_marks_of s = record { upper = s.upper; bump = s.bump; externals = s.externals; objects = s.objects }

@@ -7,30 +7,30 @@ use Rattle.gc_roots.specs.Roots.{Root}
 use Rattle.gc_heap.specs.Collection.{Start, CanCollect}
 use Rattle.gc_copying.specs.declared.space.Space.{Space}
 use Rattle.gc_copying.specs.declared.heap.CopyingHeap.{CopyingHeap}
-use Rattle.gc_copying.specs.Backed.{Backing}
+use Rattle.gc_copying.specs.Backed.{CopyingBacking}
 use Rattle.gc_heap.specs.declared.backing.Backing.TheVariants as backing
 use Rattle.gc_copying.specs.declared.copy.collect.Phase.{Phase}
 use Rattle.gc_copying.specs.declared.copy.collect.Phase.TheVariants as phase
 use Rattle.gc_copying.specs.Content.{space_view, IsSpace}
-use Rattle.gc_copying.specs.Layout.{first_place, places_in}
+use Rattle.gc_copying.specs.Layout.{copying_first_place, places_in}
 use Rattle.gc_copying.specs.CopyStart.{From}
-use Rattle.gc_copying.specs.CopySteps.{words_of}
-use Rattle.gc_copying.specs.CopyPhases.{Progress, InPhase}
+use Rattle.gc_copying.specs.CopySteps.{words_of_roots}
+use Rattle.gc_copying.specs.CopyPhases.{CopyProgress, InPhase}
 
 -- the start of a collection, in the bytes of a space
-abbrev pub start_of : Start → List ℕ → Bool → ℕ → ℕ → From
-start_of s bytes upper bump head = record {
+abbrev pub start_in_bytes : Start → List ℕ → Bool → ℕ → ℕ → From
+start_in_bytes s bytes upper bump head = record {
   memory = bytes;
   types = s.types;
-  roots = words_of s.roots;
-  first = first_place (length bytes) upper;
+  roots = words_of_roots s.roots;
+  first = copying_first_place (length bytes) upper;
   end = bump;
   places = places_in bytes upper bump;
   externals = head;
 }
 
 -- A collection that may begin there begins in this space.
-pub record BeginsIn (s : Start) (bytes : List ℕ) (upper : Bool) (bump head objects scopes : ℕ) : Type 0 where
+pub record CopyingBeginsIn (s : Start) (bytes : List ℕ) (upper : Bool) (bump head objects scopes : ℕ) : Type 0 where
   pub space : IsSpace bytes upper bump head objects
   pub heap_is : space_view bytes upper bump scopes ≡ s.heap
   pub can : CanCollect Copying s
@@ -46,38 +46,38 @@ pub record IsUntouched (s : Start) (memory : List ℕ) (upper : Bool) (bump head
   pub roots_are : roots ≡ s.roots
 
 -- how far a collection is that has the host values that it began with
-abbrev pub so_far : Start → From → ℕ → ℕ → Progress (Unit {0})
+abbrev pub so_far : Start → From → ℕ → ℕ → CopyProgress (Unit {0})
 so_far s from n counted = record { start = from; began_with = s.roots; hosts = finite.empty; increments = n; counted = counted }
 
 -- where a collection stands in each phase
-abbrev pub StandsAt : Start → List ℕ → Bool → ℕ → ℕ → ℕ → ℕ → Space → Phase → List Root → Type 0
-StandsAt s memory upper bump head n counted space phase.Roots roots = IsUntouched s memory upper bump head n counted space roots
-StandsAt s memory upper bump head n counted space (phase.Worklist scan externals) roots =
-    InPhase (Unit {0}) (so_far s (start_of s memory upper bump head) n counted) space (phase.Worklist scan externals) roots × (space.upper ≡ not upper)
-StandsAt s memory upper bump head n counted space (phase.Sweep externals) roots =
-    InPhase (Unit {0}) (so_far s (start_of s memory upper bump head) n counted) space (phase.Sweep externals) roots × (space.upper ≡ not upper)
-StandsAt s memory upper bump head n counted space phase.Done roots = ⊥
+abbrev pub CopyingStandsAt : Start → List ℕ → Bool → ℕ → ℕ → ℕ → ℕ → Space → Phase → List Root → Type 0
+CopyingStandsAt s memory upper bump head n counted space phase.Roots roots = IsUntouched s memory upper bump head n counted space roots
+CopyingStandsAt s memory upper bump head n counted space (phase.Worklist scan externals) roots =
+    InPhase (Unit {0}) (so_far s (start_in_bytes s memory upper bump head) n counted) space (phase.Worklist scan externals) roots × (space.upper ≡ not upper)
+CopyingStandsAt s memory upper bump head n counted space (phase.Sweep externals) roots =
+    InPhase (Unit {0}) (so_far s (start_in_bytes s memory upper bump head) n counted) space (phase.Sweep externals) roots × (space.upper ≡ not upper)
+CopyingStandsAt s memory upper bump head n counted space phase.Done roots = ⊥
 
 -- A collection that began there has done n increments in this space, which took so many steps.
-pub record BetweenIn (s : Start) (n counted scopes : ℕ) (space : Space) (phase : Phase) (roots : List Root) (types : List Declaration) (hosts : ℕ → Bool) : Type 0 where
+pub record CopyingBetweenIn (s : Start) (n counted scopes : ℕ) (space : Space) (phase : Phase) (roots : List Root) (types : List Declaration) (hosts : ℕ → Bool) : Type 0 where
   pub memory : List ℕ
   pub upper : Bool
   pub bump : ℕ
   pub head : ℕ
   pub objects : ℕ
-  pub begins : BeginsIn s memory upper bump head objects scopes
-  pub stands : StandsAt s memory upper bump head n counted space phase roots
+  pub begins : CopyingBeginsIn s memory upper bump head objects scopes
+  pub stands : CopyingStandsAt s memory upper bump head n counted space phase roots
   pub types_are : types ≡ s.types
   pub hosts_are : hosts ≡ s.hosts
 
 -- the same of a heap, which has its memory
-abbrev pub Between : Start → ℕ → ℕ → ℕ → Backing → Phase → List Root → List Declaration → (ℕ → Bool) → Type 0
-Between s n counted scopes backing.Detached phase roots types hosts = ⊥
-Between s n counted scopes (backing.Attached space) phase roots types hosts = BetweenIn s n counted scopes space phase roots types hosts
-Between s n counted scopes (backing.Taken m) phase roots types hosts = ⊥
+abbrev pub CopyingBetween : Start → ℕ → ℕ → ℕ → CopyingBacking → Phase → List Root → List Declaration → (ℕ → Bool) → Type 0
+CopyingBetween s n counted scopes backing.Detached phase roots types hosts = ⊥
+CopyingBetween s n counted scopes (backing.Attached space) phase roots types hosts = CopyingBetweenIn s n counted scopes space phase roots types hosts
+CopyingBetween s n counted scopes (backing.Taken m) phase roots types hosts = ⊥
 
 -- A collection that began there has done so many increments; where each was counted, their steps are known.
 pub record IsCopyingUnderWay (s : Start) (n : ℕ) (c : Bool) (h : CopyingHeap) (at : Phase) (ticks : ℕ) (roots : List Root) (types : List Declaration) (hosts : ℕ → Bool) : Type 0 where
   pub counted : ℕ
-  pub between : Between s n counted h.scopes h.backing at roots types hosts
+  pub between : CopyingBetween s n counted h.scopes h.backing at roots types hosts
   pub ticks_are : c ≡ true → ticks ≡ counted

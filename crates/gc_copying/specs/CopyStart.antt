@@ -6,8 +6,9 @@ use Rattle.gc_memory.specs.Words.{word}
 use Rattle.gc_memory.specs.Lists.{In, occ}
 use Rattle.gc_memory.specs.Chains.{Chain}
 use Rattle.gc_heap.specs.FreedHosts.{IsHostWord}
-use Rattle.gc_copying.specs.CopyWords.{flag, size_at, host_word, next_external, IsExternal, offsets_at}
+use Rattle.gc_copying.specs.CopyWords.{flag, copying_host_word, next_external, IsCopyingExternal, copying_offsets_at}
 use Rattle.gc_heap.specs.References.{Spaced}
+use Rattle.gc_copying.specs.Layout.{copying_size_at}
 
 -- The memory, the types, the words of the roots that aren't null, where the objects begin and end, their
 -- places, and the first of the list of external objects.
@@ -22,43 +23,43 @@ pub record From : Type 0 where
 
 -- the offsets of the references of an object
 abbrev pub refs : From → ℕ → List ℕ
-refs s p = offsets_at s.types s.memory p
+refs s p = copying_offsets_at s.types s.memory p
 
 -- a word of a root or a field: null, a 31-bit number, or the place of an object
-abbrev pub IsWord : From → ℕ → Type 0
-IsWord s w = (w ≡ 0) ⊎ ((w % 2 ≡ 1) ⊎ In w s.places)
+abbrev pub IsCopyingWord : From → ℕ → Type 0
+IsCopyingWord s w = (w ≡ 0) ⊎ ((w % 2 ≡ 1) ⊎ In w s.places)
 
 -- The external objects that are linked one to the next, from the first on; 0 ends the list.
-pub data Linked (m : List ℕ) : ℕ → List ℕ → Type 0 where
-  none : Linked m 0 []
-  link : {p : ℕ} {ps : List ℕ} → 0 < p → Linked m (next_external m p) ps → Linked m p (p ∷ ps)
+pub data NextExternals (m : List ℕ) : ℕ → List ℕ → Type 0 where
+  none : NextExternals m 0 []
+  link : {p : ℕ} {ps : List ℕ} → 0 < p → NextExternals m (next_external m p) ps → NextExternals m p (p ∷ ps)
 
 -- The list of external objects that begins there has each of these places that is external, once.
 pub record ListsExternals (m : List ℕ) (head : ℕ) (places : List ℕ) : Type 0 where
   pub listed : List ℕ
-  pub linked : Linked m head listed
-  pub only : (p : ℕ) → In p listed → In p places × IsExternal m p
-  pub all : (p : ℕ) → In p places → IsExternal m p → In p listed
+  pub linked : NextExternals m head listed
+  pub only : (p : ℕ) → In p listed → In p places × IsCopyingExternal m p
+  pub all : (p : ℕ) → In p places → IsCopyingExternal m p → In p listed
   pub once : (p : ℕ) → occ p listed ≤ 1
 
 -- A collection may begin there.
 pub record IsFrom (s : From) : Type 0 where
-  pub chain : Chain (size_at s.memory) s.first s.end s.places
+  pub chain : Chain (copying_size_at s.memory) s.first s.end s.places
   pub aligned : s.first % 16 ≡ 0
   pub low : 0 < s.end → 16 ≤ s.first
   pub inside : s.end ≤ length s.memory
   pub small : length s.memory < 2 ^ 32
   pub fresh : (p : ℕ) → In p s.places → flag s.memory p ≡ 0
   pub form : (p : ℕ) → In p s.places → form_of (word s.memory p) ≡ 3 → ⊥
-  pub spaced : (p : ℕ) → In p s.places → Spaced 12 (size_at s.memory p) (refs s p)
-  pub fields : (p o : ℕ) → In p s.places → In o (refs s p) → IsWord s (word s.memory (p + o))
-  pub roots : (w : ℕ) → In w s.roots → IsWord s w
+  pub spaced : (p : ℕ) → In p s.places → Spaced 12 (copying_size_at s.memory p) (refs s p)
+  pub fields : (p o : ℕ) → In p s.places → In o (refs s p) → IsCopyingWord s (word s.memory (p + o))
+  pub roots : (w : ℕ) → In w s.roots → IsCopyingWord s w
   pub externals : ListsExternals s.memory s.externals s.places
-  pub external_size : (p : ℕ) → In p s.places → IsExternal s.memory p → 32 ≤ size_at s.memory p
-  pub external_refs : (p : ℕ) → In p s.places → IsExternal s.memory p → refs s p ≡ []
-  pub hosts : (p : ℕ) → In p s.places → IsExternal s.memory p → IsHostWord (host_word s.memory p)
+  pub external_size : (p : ℕ) → In p s.places → IsCopyingExternal s.memory p → 32 ≤ copying_size_at s.memory p
+  pub external_refs : (p : ℕ) → In p s.places → IsCopyingExternal s.memory p → refs s p ≡ []
+  pub hosts : (p : ℕ) → In p s.places → IsCopyingExternal s.memory p → IsHostWord (copying_host_word s.memory p)
 
 -- The places that the roots reach.
-pub data Reached (s : From) : ℕ → Type 0 where
-  by_root : {p : ℕ} → In p s.places → In p s.roots → Reached s p
-  by_field : {p : ℕ} → In p s.places → {from : ℕ} → Reached s from → (o : ℕ) → In o (refs s from) → word s.memory (from + o) ≡ p → Reached s p
+pub data CopyingReached (s : From) : ℕ → Type 0 where
+  by_root : {p : ℕ} → In p s.places → In p s.roots → CopyingReached s p
+  by_field : {p : ℕ} → In p s.places → {from : ℕ} → CopyingReached s from → (o : ℕ) → In o (refs s from) → word s.memory (from + o) ≡ p → CopyingReached s p

@@ -9,23 +9,24 @@ use Rattle.gc_memory.specs.Chains.{Chain}
 use Rattle.gc_roots.specs.Roots.{Root, root_at}
 use Rattle.gc_copying.specs.declared.space.Space.{Space}
 use Rattle.gc_copying.specs.Spaces.{half_end, half_first}
-use Rattle.gc_copying.specs.CopyWords.{flag, size_at, forwarding, copied_unit, IsPlaceWord, offsets_at}
+use Rattle.gc_copying.specs.CopyWords.{flag, forwarding, copied_unit, IsCopyingPlace, copying_offsets_at}
 use Rattle.gc_heap.specs.References.{Spaced}
-use Rattle.gc_copying.specs.CopyStart.{From, refs, Reached}
-use Rattle.gc_copying.specs.CopyMiddle.{Mid, Leads, Moves, Later}
+use Rattle.gc_copying.specs.CopyStart.{From, refs, CopyingReached}
+use Rattle.gc_copying.specs.CopyMiddle.{Mid, IsCopiedTo, Moves, Later}
+use Rattle.gc_copying.specs.Layout.{copying_size_at}
 
 -- The object at p may be copied to q.
-pub record CanCopy (m : List ℕ) (p q : ℕ) : Type 0 where
-  pub source : p + size_at m p ≤ length m
-  pub destination : q + size_at m p ≤ length m
-  pub least : 16 ≤ size_at m p
-  pub apart : (p + size_at m p ≤ q) ⊎ (q + size_at m p ≤ p)
-  pub whole : size_at m p % 16 ≡ 0
+pub record CanCopyTo (m : List ℕ) (p q : ℕ) : Type 0 where
+  pub source : p + copying_size_at m p ≤ length m
+  pub destination : q + copying_size_at m p ≤ length m
+  pub least : 16 ≤ copying_size_at m p
+  pub apart : (p + copying_size_at m p ≤ q) ⊎ (q + copying_size_at m p ≤ p)
+  pub whole : copying_size_at m p % 16 ≡ 0
   pub fresh : flag m p ≡ 0
   pub small : length m < 2 ^ 32
 
 -- The n bytes of the object at p were copied to q; p says that it was copied, and where to.
-pub record Copies (m m' : List ℕ) (p q n : ℕ) : Type 0 where
+pub record CopiesObject (m m' : List ℕ) (p q n : ℕ) : Type 0 where
   pub same_length : length m' ≡ length m
   pub copy : SameAcross m p m' q 0 n
   pub flagged : word m' p ≡ word m p + copied_unit
@@ -41,7 +42,7 @@ Midway s t h =
 
 -- a word that may be moved: a place is one of a reached object
 abbrev pub Known : From → ℕ → Type 0
-Known s w = IsPlaceWord w → In w s.places × Reached s w
+Known s w = IsCopyingPlace w → In w s.places × CopyingReached s w
 
 -- the half and the list of external objects are as they were
 pub record SameSides (old new : Space) : Type 0 where
@@ -65,14 +66,14 @@ pub record Forwards (s : From) (t : ℕ) (old new : Space) (w w' : ℕ) : Type 0
 -- be moved.
 pub record Scanning (s : From) (p q u : ℕ) (left : List ℕ) (h : Space) : Type 0 where
   pub mid : Midway s (q + u) h
-  pub leads : Leads s h.memory p q
-  pub to : u ≤ size_at s.memory p
-  pub spaced : Spaced u (size_at s.memory p) left
+  pub leads : IsCopiedTo s h.memory p q
+  pub to : u ≤ copying_size_at s.memory p
+  pub spaced : Spaced u (copying_size_at s.memory p) left
   pub part : (o : ℕ) → In o left → In o (refs s p)
   pub done : (o : ℕ) → In o (refs s p) → (o + 4 ≤ u) ⊎ In o left
 
 -- A copy has references at these offsets left to scan.
-pub record CanScan (h : Space) (q : ℕ) (left : List ℕ) : Type 0 where
+pub record CanScanCopy (h : Space) (q : ℕ) (left : List ℕ) : Type 0 where
   pub start : From
   pub place : ℕ
   pub from : ℕ
@@ -93,16 +94,16 @@ pub record CanScanAt (h : Space) (q offset : ℕ) : Type 0 where
 
 -- All references of the copy at q were moved, so the frontier is behind it.
 pub record ScansAll (s : From) (p q : ℕ) (old new : Space) : Type 0 where
-  pub mid : Midway s (q + size_at s.memory p) new
+  pub mid : Midway s (q + copying_size_at s.memory p) new
   pub later : Later s old.memory new.memory
 
 -- The copies before `scan` were scanned: so many, with so many references.
 pub record WorkAt (s : From) (h : Space) (scan n fields : ℕ) : Type 0 where
   pub mid : Midway s scan h
   pub front : List ℕ
-  pub chain : Chain (size_at h.memory) (half_first (length h.memory) h.upper) scan front
+  pub chain : Chain (copying_size_at h.memory) (half_first (length h.memory) h.upper) scan front
   pub scanned : length front ≡ n
-  pub looked_at : sum_over (λ q. length (offsets_at s.types h.memory q)) front ≡ fields
+  pub looked_at : sum_over (λ q. length (copying_offsets_at s.types h.memory q)) front ≡ fields
 
 -- More copies were scanned.
 pub record Works (s : From) (old new : Space) (scan n fields : ℕ) : Type 0 where
@@ -115,7 +116,7 @@ pub record WorksOn (s : From) (old new : Space) (scan more n fields counted coun
   pub works : Works s old new scan (n + more) (fields + references)
   pub ticks : count + old.objects ≡ counted + new.objects + references
 
--- Copies may be scanned from there on.
+-- CopiesObject may be scanned from there on.
 pub record CanWork (types : List Declaration) (h : Space) (scan : ℕ) : Type 0 where
   pub start : From
   pub n : ℕ
@@ -135,16 +136,16 @@ pub record RootsMoved (s : From) (m : List ℕ) (old new : List Root) : Type 0 w
   pub moved : (i : ℕ) → i < length old → IsMovedRoot s m (root_at old i) (root_at new i)
 
 -- the words of roots
-abbrev pub words_of : List Root → List ℕ
-words_of [] = []
-words_of (r ∷ rs) = r.word ∷ words_of rs
+abbrev pub words_of_roots : List Root → List ℕ
+words_of_roots [] = []
+words_of_roots (r ∷ rs) = r.word ∷ words_of_roots rs
 
 -- The roots of a collection may be moved.
 pub record CanForwardRoots (h : Space) (roots : List Root) : Type 0 where
   pub start : From
   pub frontier : ℕ
   pub mid : Midway start frontier h
-  pub roots_are : start.roots ≡ words_of roots
+  pub roots_are : start.roots ≡ words_of_roots roots
 
 -- The roots were moved, and what they name was copied where it had not been.
 pub record ForwardsRoots (s : From) (t : ℕ) (old new : Space) (roots roots' : List Root) : Type 0 where

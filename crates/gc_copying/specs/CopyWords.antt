@@ -17,17 +17,13 @@ copied_unit = 33554432
 abbrev pub flag : List ℕ → ℕ → ℕ
 flag m p = word m p / copied_unit % 2
 
--- the bytes of the object at a place
-abbrev pub size_at : List ℕ → ℕ → ℕ
-size_at m p = word m (p + 8)
-
 -- where it went, once it has been copied
 abbrev pub forwarding : List ℕ → ℕ → ℕ
 forwarding m p = word m (p + 12)
 
 -- the number that an external object keeps of its host value, and the next external object
-abbrev pub host_word : List ℕ → ℕ → ℕ
-host_word m p = word m (p + 16)
+abbrev pub copying_host_word : List ℕ → ℕ → ℕ
+copying_host_word m p = word m (p + 16)
 
 abbrev pub next_external : List ℕ → ℕ → ℕ
 next_external m p = word m (p + 20)
@@ -37,8 +33,8 @@ abbrev pub external_bits : ℕ
 external_bits = 16
 
 -- the object is an external one
-abbrev pub IsExternal : List ℕ → ℕ → Type 0
-IsExternal m p = word m p / spare_bits ≡ external_bits
+abbrev pub IsCopyingExternal : List ℕ → ℕ → Type 0
+IsCopyingExternal m p = word m p / spare_bits ≡ external_bits
 
 -- the offsets that a bitmap names
 unfoldable pub bitmap_places : ℕ → List ℕ
@@ -63,10 +59,10 @@ traced types kind_word ty count =
     info_places count (trace_at Copying types ty))
 
 -- the same of the object at a place
-unfoldable pub offsets_at : List Declaration → List ℕ → ℕ → List ℕ
-offsets_at types m p = traced types (word m p) (word m (p + 4)) (word m (p + 12))
+unfoldable pub copying_offsets_at : List Declaration → List ℕ → ℕ → List ℕ
+copying_offsets_at types m p = traced types (word m p) (word m (p + 4)) (word m (p + 12))
 
 -- a word of a root or a field is the place of an object: neither null nor a 31-bit number
-pub record IsPlaceWord (w : ℕ) : Type 0 where
+pub record IsCopyingPlace (w : ℕ) : Type 0 where
   pub not_null : 0 < w
   pub even : w % 2 ≡ 0

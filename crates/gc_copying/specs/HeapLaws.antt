@@ -16,10 +16,10 @@ use Rattle.gc_heap.specs.Objects.{size_with, held_size, first_offset, data_offse
 use Rattle.gc_heap.specs.Content.{total, block_size, LiesAtPlace, LiesInHalf, IsHeap}
 use Rattle.gc_heap.specs.Totals.{total-empty}
 use Rattle.gc_heap.specs.Content.{half_of}
-use Rattle.gc_copying.specs.Spaces.{half_start, half_end}
-use Rattle.gc_copying.specs.Layout.{skipped, first_place, size_at, places_in, kind_at, data_at, object_at}
-use Rattle.gc_copying.specs.Content.{objects_at, space_view, IsWhole, IsSpace}
-use Rattle.gc_copying.specs.ObjectLaws.{length-external, held_size-at, held_only, total-at}
+use Rattle.gc_copying.specs.Spaces.{half_start, half_end, half_skipped}
+use Rattle.gc_copying.specs.Layout.{copying_first_place, copying_size_at, places_in, copying_kind_at, copying_data_at, copying_object_at}
+use Rattle.gc_copying.specs.Content.{objects_at, space_view, IsCopyingWhole, IsSpace}
+use Rattle.gc_copying.specs.ObjectLaws.{length-external, held_size-copying, held_only, total-objects_at}
 
 -- a half begins at a multiple of 16 and ends in the memory
 pub record HalfLies (n : ℕ) (upper : Bool) : Type 0 where
@@ -32,8 +32,8 @@ half_lies n false = record { aligned = omega arith; to = omega arith }
 
 -- where nothing is skipped there is no memory, so no half
 pub data Skips (n : ℕ) (upper : Bool) : Type 0 where
-  nothing : n ≡ 0 → skipped n ≡ 0 → half_start n upper ≡ 0 → half_of n ≡ 0 → Skips n upper
-  sixteen : 0 < n → skipped n ≡ 16 → Skips n upper
+  nothing : n ≡ 0 → half_skipped n ≡ 0 → half_start n upper ≡ 0 → half_of n ≡ 0 → Skips n upper
+  sixteen : 0 < n → half_skipped n ≡ 16 → Skips n upper
 
 no_start : (n : ℕ) (upper : Bool) → n ≡ 0 → half_start n upper ≡ 0
 no_start n true e = omega arith
@@ -50,21 +50,21 @@ skips n upper = elim (cases_eq n 0) [
 
 -- where an object of a space lies
 pub record LiesInSpace (bytes : List ℕ) (upper : Bool) (bump p : ℕ) : Type 0 where
-  pub from : first_place (length bytes) upper ≤ p
-  pub to : p + size_at bytes p ≤ bump
-  pub inside : p + size_at bytes p ≤ length bytes
-  pub least : 16 ≤ size_at bytes p
-  pub units : size_at bytes p % 16 ≡ 0
+  pub from : copying_first_place (length bytes) upper ≤ p
+  pub to : p + copying_size_at bytes p ≤ bump
+  pub inside : p + copying_size_at bytes p ≤ length bytes
+  pub least : 16 ≤ copying_size_at bytes p
+  pub units : copying_size_at bytes p % 16 ≡ 0
   pub aligned : p % 16 ≡ 0
   pub not_null : 0 < p
 
-pub first_aligned : (n : ℕ) (upper : Bool) → first_place n upper % 16 ≡ 0
+pub first_aligned : (n : ℕ) (upper : Bool) → copying_first_place n upper % 16 ≡ 0
 first_aligned n upper = let h = half_lies n upper in elim (skips n upper) [
   | nothing e s start half ↦ omega (arith, h.aligned)
   | sixteen more s ↦ omega (arith, h.aligned)
 ]
 
-place_not_null : (n : ℕ) (upper : Bool) (p size bump : ℕ) → first_place n upper ≤ p → p + size ≤ bump → 16 ≤ size → bump ≤ half_end n upper → 0 < p
+place_not_null : (n : ℕ) (upper : Bool) (p size bump : ℕ) → copying_first_place n upper ≤ p → p + size ≤ bump → 16 ≤ size → bump ≤ half_end n upper → 0 < p
 place_not_null n upper p size bump from to least inside = elim (skips n upper) [
   | nothing e s start half ↦ absurd (omega arith)
   | sixteen more s ↦ omega arith
@@ -73,7 +73,7 @@ place_not_null n upper p size bump from to least inside = elim (skips n upper) [
 pub lies_in_space : (bytes : List ℕ) (upper : Bool) (bump head objects p : ℕ) → IsSpace bytes upper bump head objects → In p (places_in bytes upper bump)
     → LiesInSpace bytes upper bump p
 lies_in_space bytes upper bump head objects p s i =
-    let l = Chain-lies (size_at bytes) (first_place (length bytes) upper) bump p (places_in bytes upper bump) s.chain i in
+    let l = Chain-lies (copying_size_at bytes) (copying_first_place (length bytes) upper) bump p (places_in bytes upper bump) s.chain i in
     let h = half_lies (length bytes) upper in
     record {
       from = l.from;
@@ -82,7 +82,7 @@ lies_in_space bytes upper bump head objects p s i =
       least = l.least;
       units = l.whole;
       aligned = l.aligned (first_aligned (length bytes) upper);
-      not_null = place_not_null (length bytes) upper p (size_at bytes p) bump l.from l.to l.least s.inside;
+      not_null = place_not_null (length bytes) upper p (copying_size_at bytes p) bump l.from l.to l.least s.inside;
     }
 
 whole_by : (k : VMGcKind) (n size : ℕ) → first_offset Copying k ≤ size → size_with Copying k n ≡ size → (k ≡ ExternRef → n ≡ 4) → first_offset Copying k ≤ data_offset Copying k + n
@@ -94,16 +94,16 @@ whole_by ArrayRef n size least is host = omega arith
 whole_by ExnRef n size least is host = omega arith
 
 -- the object at a place of a space lies there
-lies_at_place : (bytes : List ℕ) (upper : Bool) (bump p : ℕ) → LiesInSpace bytes upper bump p → IsWhole bytes p → LiesAtPlace Copying (length bytes) p (object_at bytes p)
-lies_at_place bytes upper bump p l w =
-    let held = held_size-at bytes p w l.inside in
-    let host : kind_at bytes p ≡ ExternRef → length (data_at bytes p (kind_at bytes p)) ≡ 4 = λ e.
-    ap (λ k. length (data_at bytes p k)) e ∙ length-external bytes p (let size = (w.external e).size in omega (arith, l.inside)) in
+copying_lies_at_place : (bytes : List ℕ) (upper : Bool) (bump p : ℕ) → LiesInSpace bytes upper bump p → IsCopyingWhole bytes p → LiesAtPlace Copying (length bytes) p (copying_object_at bytes p)
+copying_lies_at_place bytes upper bump p l w =
+    let held = held_size-copying bytes p w l.inside in
+    let host : copying_kind_at bytes p ≡ ExternRef → length (copying_data_at bytes p (copying_kind_at bytes p)) ≡ 4 = λ e.
+    ap (λ k. length (copying_data_at bytes p k)) e ∙ length-external bytes p (let size = (w.external e).size in omega (arith, l.inside)) in
     record {
       aligned = l.aligned;
       not_null = l.not_null;
       kind = w.object_kind;
-      whole = whole_by (kind_at bytes p) (length (data_at bytes p (kind_at bytes p))) (size_at bytes p) w.least held host;
+      whole = whole_by (copying_kind_at bytes p) (length (copying_data_at bytes p (copying_kind_at bytes p))) (copying_size_at bytes p) w.least held host;
       host = host;
       spare = w.spare;
       inside = subst (λ n. p + n ≤ length bytes) (sym held) l.inside;
@@ -111,37 +111,37 @@ lies_at_place bytes upper bump p l w =
 
 -- the sizes of the objects add up to the bytes behind the first place
 pub sizes_are : (bytes : List ℕ) (upper : Bool) (bump head objects : ℕ) → IsSpace bytes upper bump head objects
-    → first_place (length bytes) upper + total (held_size Copying) (objects_at bytes (places_in bytes upper bump)) ≡ bump
+    → copying_first_place (length bytes) upper + total (held_size Copying) (objects_at bytes (places_in bytes upper bump)) ≡ bump
 sizes_are bytes upper bump head objects s =
     let ps : List ℕ = places_in bytes upper bump in
-    let first : ℕ = first_place (length bytes) upper in
-    let each = sum_over-same (size_at bytes) (λ p. held_size Copying (object_at bytes p)) ps
-    (λ p i. held_size-at bytes p (s.whole p i) (lies_in_space bytes upper bump head objects p s i).inside) in
-    ap (λ n. first + n) (total-at (held_size Copying) bytes first bump ps s.chain ∙ each)
-    ∙ Chain-sum (size_at bytes) first bump ps s.chain
+    let first : ℕ = copying_first_place (length bytes) upper in
+    let each = sum_over-same (copying_size_at bytes) (λ p. held_size Copying (copying_object_at bytes p)) ps
+    (λ p i. held_size-copying bytes p (s.whole p i) (lies_in_space bytes upper bump head objects p s i).inside) in
+    ap (λ n. first + n) (total-objects_at (held_size Copying) bytes first bump ps s.chain ∙ each)
+    ∙ Chain-sum (copying_size_at bytes) first bump ps s.chain
 
 -- and so do their blocks
 pub blocks_are : (bytes : List ℕ) (upper : Bool) (bump head objects : ℕ) → IsSpace bytes upper bump head objects
-    → first_place (length bytes) upper + total (block_size Copying) (objects_at bytes (places_in bytes upper bump)) ≡ bump
+    → copying_first_place (length bytes) upper + total (block_size Copying) (objects_at bytes (places_in bytes upper bump)) ≡ bump
 blocks_are bytes upper bump head objects s =
     let ps : List ℕ = places_in bytes upper bump in
-    let first : ℕ = first_place (length bytes) upper in
-    let each = sum_over-same (size_at bytes) (λ p. block_size Copying (object_at bytes p)) ps
+    let first : ℕ = copying_first_place (length bytes) upper in
+    let each = sum_over-same (copying_size_at bytes) (λ p. block_size Copying (copying_object_at bytes p)) ps
     (λ p i.
     let l = lies_in_space bytes upper bump head objects p s i in
-    let whole : round_up (size_at bytes p) 16 ≡ size_at bytes p = omega (arith, l.units) in
-    ap (λ n. round_up n 16) (held_size-at bytes p (s.whole p i) l.inside) ∙ whole) in
-    ap (λ n. first + n) (total-at (block_size Copying) bytes first bump ps s.chain ∙ each)
-    ∙ Chain-sum (size_at bytes) first bump ps s.chain
+    let whole : round_up (copying_size_at bytes p) 16 ≡ copying_size_at bytes p = omega (arith, l.units) in
+    ap (λ n. round_up n 16) (held_size-copying bytes p (s.whole p i) l.inside) ∙ whole) in
+    ap (λ n. first + n) (total-objects_at (block_size Copying) bytes first bump ps s.chain ∙ each)
+    ∙ Chain-sum (copying_size_at bytes) first bump ps s.chain
 
-allocated_by : (n bump sum : ℕ) (upper : Bool) → first_place n upper + sum ≡ bump → bump ≤ half_end n upper → bump - half_start n upper ≡ (if n == 0 then 0 else 16 + sum)
+allocated_by : (n bump sum : ℕ) (upper : Bool) → copying_first_place n upper + sum ≡ bump → bump ≤ half_end n upper → bump - half_start n upper ≡ (if n == 0 then 0 else 16 + sum)
 allocated_by n bump sum upper e h = elim (skips n upper) [
   | nothing z s start half ↦ rw (eq-eqb n 0 z) (omega arith)
   | sixteen more s ↦ rw (ne_eqb n 0 (λ z. omega arith)) (omega arith)
 ]
 
 -- the first object lies behind the bytes that are skipped, as any object shows that there is a half
-first_behind : (n : ℕ) (upper : Bool) (p size bump : ℕ) → first_place n upper ≤ p → p + size ≤ bump → 16 ≤ size → bump ≤ half_end n upper → half_start n upper + 16 ≤ p
+first_behind : (n : ℕ) (upper : Bool) (p size bump : ℕ) → copying_first_place n upper ≤ p → p + size ≤ bump → 16 ≤ size → bump ≤ half_end n upper → half_start n upper + 16 ≤ p
 first_behind n upper p size bump from to least inside = elim (skips n upper) [
   | nothing e s start half ↦ absurd (omega arith)
   | sixteen more s ↦ omega arith
@@ -154,38 +154,38 @@ in_half bytes upper bump head objects scopes s =
     let lies = λ (p : ℕ) (i : In p ps). lies_in_space bytes upper bump head objects p s i in
     let held = λ (p : ℕ) (o : HeapObject) (e : finite.get (objects_at bytes ps) p ≡ Some o).
     let f = held_only bytes p o ps e in
-    ap (held_size Copying) f.is ∙ held_size-at bytes p (s.whole p f.among) (lies p f.among).inside in
+    ap (held_size Copying) f.is ∙ held_size-copying bytes p (s.whole p f.among) (lies p f.among).inside in
     record {
       counts = refl;
       half = omega (arith, s.inside);
       from = λ p o e.
           let l = lies p (held_only bytes p o ps e).among in
-          first_behind (length bytes) upper p (size_at bytes p) bump l.from l.to l.least s.inside;
+          first_behind (length bytes) upper p (copying_size_at bytes p) bump l.from l.to l.least s.inside;
       below = λ p o e.
           let l = lies p (held_only bytes p o ps e).among in
-          omega (arith, held p o e, l.to, first_behind (length bytes) upper p (size_at bytes p) bump l.from l.to l.least s.inside);
+          omega (arith, held p o e, l.to, first_behind (length bytes) upper p (copying_size_at bytes p) bump l.from l.to l.least s.inside);
       whole = λ p o e.
           let l = lies p (held_only bytes p o ps e).among in
           ap (λ n. n % 16) (held p o e) ∙ l.units;
     }
 
 -- A sound space is a heap.
-pub space_is_heap : (bytes : List ℕ) (upper : Bool) (bump head objects scopes : ℕ) → IsSpace bytes upper bump head objects → scopes < 2 ^ 64
+pub copying_space_is_heap : (bytes : List ℕ) (upper : Bool) (bump head objects scopes : ℕ) → IsSpace bytes upper bump head objects → scopes < 2 ^ 64
     → IsHeap Copying (space_view bytes upper bump scopes)
-space_is_heap bytes upper bump head objects scopes s below =
+copying_space_is_heap bytes upper bump head objects scopes s below =
     let ps : List ℕ = places_in bytes upper bump in
-    let first : ℕ = first_place (length bytes) upper in
+    let first : ℕ = copying_first_place (length bytes) upper in
     let lies = λ (p : ℕ) (i : In p ps). lies_in_space bytes upper bump head objects p s i in
     let h = half_lies (length bytes) upper in
     record {
       objects = λ p o e.
           let f = held_only bytes p o ps e in
-          subst (LiesAtPlace Copying (length bytes) p) (sym f.is) (lies_at_place bytes upper bump p (lies p f.among) (s.whole p f.among));
+          subst (LiesAtPlace Copying (length bytes) p) (sym f.is) (copying_lies_at_place bytes upper bump p (lies p f.among) (s.whole p f.among));
       apart = λ p q o o' e e' before.
           let f = held_only bytes p o ps e in
           let g = held_only bytes q o' ps e' in
-          let held = ap (held_size Copying) f.is ∙ held_size-at bytes p (s.whole p f.among) (lies p f.among).inside in
-          subst (λ n. p + n ≤ q) (sym held) (Chain-apart (size_at bytes) first bump p q ps s.chain f.among g.among before);
+          let held = ap (held_size Copying) f.is ∙ held_size-copying bytes p (s.whole p f.among) (lies p f.among).inside in
+          subst (λ n. p + n ≤ q) (sym held) (Chain-apart (copying_size_at bytes) first bump p q ps s.chain f.among g.among before);
       fits = let sizes = sizes_are bytes upper bump head objects s in omega (arith, s.inside, h.to);
       pages = s.pages;
       bound = s.bound;
@@ -197,8 +197,8 @@ space_is_heap bytes upper bump head objects scopes s below =
     }
 
 -- A heap with no memory is one.
-pub detached_is_heap : (scopes : ℕ) → scopes < 2 ^ 64 → IsHeap Copying (detached_in scopes)
-detached_is_heap scopes below = record {
+pub copying_detached_is_heap : (scopes : ℕ) → scopes < 2 ^ 64 → IsHeap Copying (detached_in scopes)
+copying_detached_is_heap scopes below = record {
   objects = λ p o e. absurd (none p o e);
   apart = λ p q o o' e e' before. absurd (none p o e);
   fits = omega (arith, total-empty (held_size Copying));

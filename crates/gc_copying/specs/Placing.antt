@@ -9,11 +9,11 @@ use Rattle.gc_view.specs.Sizes.{alignment}
 use Rattle.gc_view.specs.Heaps.{HeapView}
 use Rattle.gc_heap.specs.Heap.{IsTooLarge, HasRoom}
 use Rattle.gc_view.specs.Sizes.{need_of}
-use Rattle.gc_copying.specs.declared.place.Room.{Room}
-use Rattle.gc_copying.specs.declared.place.Room.TheVariants as room
+use Rattle.gc_copying.specs.declared.blocks.Room.{Room}
+use Rattle.gc_copying.specs.declared.blocks.Room.TheVariants as room
 
 -- What lets an object be written behind the last one.
-pub record CanPlace (bytes : List ℕ) (bump objects block : ℕ) : Type 0 where
+pub record CanPlaceBehind (bytes : List ℕ) (bump objects block : ℕ) : Type 0 where
   pub begun : 0 < bump
   pub least : 16 ≤ block
   pub room : bump + block ≤ length bytes
@@ -21,7 +21,7 @@ pub record CanPlace (bytes : List ℕ) (bump objects block : ℕ) : Type 0 where
   pub count : objects < 2 ^ 32
 
 -- so many bytes were written at a place: a header, their number, and zeros
-pub record WritesBlock (before after : List ℕ) (place : ℕ) (header : Header) (size : ℕ) : Type 0 where
+pub record WritesCopyingBlock (before after : List ℕ) (place : ℕ) (header : Header) (size : ℕ) : Type 0 where
   pub around : Wrote before after place size
   pub kind_word : word after place ≡ header.kind_word
   pub type_word : word after (place + 4) ≡ header.type_word
@@ -30,7 +30,7 @@ pub record WritesBlock (before after : List ℕ) (place : ℕ) (header : Header)
 
 -- What is found of an object of that size: it fits, and takes so many bytes; the heap would have to grow
 -- by so many; or no heap can hold it.
-abbrev pub FindsRoom : HeapView → ℕ → Room → Type 0
-FindsRoom h size (room.Fits block) = (IsTooLarge Copying size → ⊥) × (HasRoom Copying h size × (block ≡ round_up size alignment))
-FindsRoom h size (room.Lacks need) = (IsTooLarge Copying size → ⊥) × ((HasRoom Copying h size → ⊥) × (need ≡ need_of Copying size))
-FindsRoom h size room.TooLarge = IsTooLarge Copying size
+abbrev pub TellsRoom : HeapView → ℕ → Room → Type 0
+TellsRoom h size (room.Fits block) = (IsTooLarge Copying size → ⊥) × (HasRoom Copying h size × (block ≡ round_up size alignment))
+TellsRoom h size (room.Lacks need) = (IsTooLarge Copying size → ⊥) × ((HasRoom Copying h size → ⊥) × (need ≡ need_of Copying size))
+TellsRoom h size room.TooLarge = IsTooLarge Copying size

@@ -11,9 +11,9 @@ abbrev pub half_end : ℕ → Bool → ℕ
 half_end capacity upper = half_start capacity upper + half_of capacity
 
 -- The bytes before the first object of a half, so that no object lies at 0. A half of no bytes has none.
-abbrev pub skipped : ℕ → ℕ
-skipped half = if half == 0 then 0 else 16
+abbrev pub half_skipped : ℕ → ℕ
+half_skipped half = if half == 0 then 0 else 16
 
 -- where its first object begins
 abbrev pub half_first : ℕ → Bool → ℕ
-half_first capacity upper = half_start capacity upper + skipped (half_of capacity)
+half_first capacity upper = half_start capacity upper + half_skipped (half_of capacity)

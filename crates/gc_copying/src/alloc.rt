@@ -7,9 +7,9 @@ ghost use Rattle.gc_refs.specs.Header.{IsOfKind};
 ghost use Rattle.gc_heap.specs.Heap.{Allocated};
 ghost use Rattle.gc_heap.specs.Making.{CanMake, made};
 ghost use Rattle.gc_copying.specs.Linking.{link_end, with_link};
-ghost use Rattle.gc_copying.specs.States.{IsSound, seen_in};
+ghost use Rattle.gc_copying.specs.States.{IsSoundSemiSpace, copying_seen_in};
 
-use crate::place::Room;
+use crate::blocks::Room;
 use crate::space::Space;
 use gc_heap::{FirstWord, HeapFault};
 use gc_memory::offsets::COPYING_NEXT_EXTERNAL;
@@ -39,15 +39,15 @@ impl Space {
         first: FirstWord,
         size: u64,
     ) -> Result<Result<VMGcRef, u64>, HeapFault>
-        requires sound { IsSound self.old }
+        requires sound { IsSoundSemiSpace self.old }
         requires can { CanMake Copying header first size }
-        ensures sound { IsSound self.new }
+        ensures sound { IsSoundSemiSpace self.new }
         ensures allocated { (scopes : ℕ) (kind : VMGcKind) → IsOfKind kind header.kind_word
-            → Allocated Copying (seen_in scopes self.old) (seen_in scopes self.new) (made Copying kind header first size) size result }
+            → Allocated Copying (copying_seen_in scopes self.old) (copying_seen_in scopes self.new) (made Copying kind header first size) size result }
     {
         match self.room(size) {
             Room::Fits(block) => {
-                let object = self.place(header, block);
+                let object = self.write_object(header, block);
                 let place = object.as_raw_u32();
                 first.write(&mut self.memory, Layouts::Copying, place);
                 self.link_external(place, &first);

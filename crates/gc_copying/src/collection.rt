@@ -1,6 +1,6 @@
 //! What a collection of a copying heap knows between two increments.
 
-ghost use Rattle.gc_copying.specs.CollectionLaw.{IsFresh};
+ghost use Rattle.gc_copying.specs.CollectionLaw.{IsCopyingFresh};
 
 use crate::copy::collect::Phase;
 use crate::ticks::Ticks;
@@ -16,7 +16,7 @@ pub struct CopyingCollection {
 impl CopyingCollection {
     /// A collection of which nothing was done.
     pub(crate) fn new() -> CopyingCollection
-        ensures { IsFresh result }
+        ensures { IsCopyingFresh result }
     {
         CopyingCollection {
             phase: Phase::Roots,

@@ -5,7 +5,7 @@ ghost use Rattle.gc_heap.specs.Heap.{empty_heap};
 ghost use Rattle.gc_types.specs.declared.kind.Layouts.TheVariants.{Copying};
 ghost use Rattle.gc_view.specs.Pages.{page, max_pages};
 ghost use Rattle.gc_copying.specs.Growth.{bump_in_more};
-ghost use Rattle.gc_copying.specs.States.{IsSound, seen_in};
+ghost use Rattle.gc_copying.specs.States.{IsSoundSemiSpace, copying_seen_in};
 
 use crate::space::{SKIPPED, Space};
 use gc_heap::{HeapMemory, HeapSpace};
@@ -29,8 +29,8 @@ fn first_bump(memory: &HeapMemory) -> u32
 impl Space {
     /// A memory with no objects.
     pub(crate) fn new(memory: HeapMemory) -> Space
-        ensures sound { IsSound result }
-        ensures seen { (scopes : ℕ) → seen_in scopes result ≡ empty_heap Copying (length memory) scopes }
+        ensures sound { IsSoundSemiSpace result }
+        ensures seen { (scopes : ℕ) → copying_seen_in scopes result ≡ empty_heap Copying (length memory) scopes }
     {
         let _pages = memory.pages();
         let bump = first_bump(&memory);
@@ -45,13 +45,13 @@ impl Space {
 }
 
 impl HeapSpace for Space {
-    ghost use Rattle.gc_copying.specs.Backed.{marks_of};
+    ghost use Rattle.gc_copying.specs.Backed.{copying_marks_of};
 
     type Marks = Marks;
 
     ghost memory = { λ s. s.memory };
 
-    ghost marks = { marks_of };
+    ghost marks = { copying_marks_of };
 
     ghost objects = { λ s. s.objects };
 

@@ -17,8 +17,8 @@ ghost use Rattle.gc_types.specs.declared.kind.Layouts.TheVariants.{Copying};
 ghost use Rattle.gc_view.specs.Heaps.{detached_in};
 ghost use Rattle.gc_heap.specs.Collection.{Start, has_host, IsPartOf, Collected, Stepped, IsStepCount};
 ghost use Rattle.gc_copying.specs.States.{copying_seen, IsCopyingSound};
-ghost use Rattle.gc_copying.specs.CopyPhases.{left_of};
-ghost use Rattle.gc_copying.specs.CopyBetween.{Between};
+ghost use Rattle.gc_copying.specs.CopyPhases.{copying_left};
+ghost use Rattle.gc_copying.specs.CopyBetween.{CopyingBetween};
 
 use crate::collection::CopyingCollection;
 use crate::copy::collect::Phase;
@@ -63,16 +63,16 @@ impl CopyingHeap {
         trace: &mut GcStoreTraceState<'_, D>,
         steps: &mut Steps<G>,
     ) -> GcProgress
-        requires { (s : Start) × ((n : ℕ) × ((counted : ℕ) × Between s n counted self.old.scopes self.old.backing phase.old roots.old.roots
+        requires { (s : Start) × ((n : ℕ) × ((counted : ℕ) × CopyingBetween s n counted self.old.scopes self.old.backing phase.old roots.old.roots
             trace.old.types.now.declarations (has_host trace.old.host_data_table.now.entries))) }
-        ensures stepped { (s : Start) (n counted more : ℕ) → Between s n counted self.old.scopes self.old.backing phase.old roots.old.roots
+        ensures stepped { (s : Start) (n counted more : ℕ) → CopyingBetween s n counted self.old.scopes self.old.backing phase.old roots.old.roots
             trace.old.types.now.declarations (has_host trace.old.host_data_table.now.entries) → steps.new ≡ steps.old + more
-            → Stepped Copying s (n + 1) result (Between s (n + 1)
+            → Stepped Copying s (n + 1) result (CopyingBetween s (n + 1)
             (counted + more) self.new.scopes self.new.backing phase.new roots.new.roots trace.old.types.now.declarations
             (has_host trace.new.host_data_table.now.entries))
             (IsCopyingSound self.new × IsStepCount Copying s (counted + more)
             × Collected Copying s (copying_seen self.new) roots.new.roots (has_host trace.new.host_data_table.now.entries)) }
-        ensures less { result ≡ GcProgress.Continue → left_of phase.new < left_of phase.old }
+        ensures less { result ≡ GcProgress.Continue → copying_left phase.new < copying_left phase.old }
         ensures rises { steps.old ≤ steps.new }
         ensures spare { roots.new.spare ≡ roots.old.spare }
         ensures host_spare { trace.old.host_data_table.now.spare ≤ trace.new.host_data_table.now.spare }
@@ -104,16 +104,16 @@ impl CopyingHeap {
         requires parts { blank.parts ≡ L.parts }
         requires some { 0 < blank.parts }
         requires between { (s : Start) × ((n : ℕ) × ((counted : ℕ)
-            × Between s n counted self.old.scopes self.old.backing phase.old roots.old.roots trace.old.types.now.declarations
+            × CopyingBetween s n counted self.old.scopes self.old.backing phase.old roots.old.roots trace.old.types.now.declarations
             (has_host trace.old.host_data_table.now.entries))) }
-        ensures stepped { (s : Start) (n counted : ℕ) → Between s n counted self.old.scopes self.old.backing phase.old roots.old.roots
+        ensures stepped { (s : Start) (n counted : ℕ) → CopyingBetween s n counted self.old.scopes self.old.backing phase.old roots.old.roots
             trace.old.types.now.declarations (has_host trace.old.host_data_table.now.entries)
-            → (more : ℕ) × Stepped Copying s (n + 1) result (Between s (n + 1)
+            → (more : ℕ) × Stepped Copying s (n + 1) result (CopyingBetween s (n + 1)
             (counted + more) self.new.scopes self.new.backing phase.new roots.new.roots trace.old.types.now.declarations
             (has_host trace.new.host_data_table.now.entries))
             (IsCopyingSound self.new × IsStepCount Copying s (counted + more)
             × Collected Copying s (copying_seen self.new) roots.new.roots (has_host trace.new.host_data_table.now.entries)) }
-        ensures less { result ≡ GcProgress.Continue → left_of phase.new < left_of phase.old }
+        ensures less { result ≡ GcProgress.Continue → copying_left phase.new < copying_left phase.old }
         ensures spare { roots.new.spare ≡ roots.old.spare }
         ensures host_spare { trace.old.host_data_table.now.spare ≤ trace.new.host_data_table.now.spare }
         ensures values { IsPartOf trace.new.host_data_table.now.entries trace.old.host_data_table.now.entries }
@@ -129,10 +129,10 @@ impl GcHeap for CopyingHeap {
     ghost use Rattle.std.specs.Prelude.{ℕ};
     ghost use Rattle.gc_types.specs.declared.kind.Layouts.TheVariants.{Copying};
     ghost use Rattle.gc_copying.specs.States.{copying_seen, IsCopyingSound, IsCopyingTaken};
-    ghost use Rattle.gc_copying.specs.CopyPhases.{left_of};
+    ghost use Rattle.gc_copying.specs.CopyPhases.{copying_left};
     ghost use Rattle.gc_copying.specs.CopyBetween.{IsCopyingUnderWay};
     ghost use Rattle.gc_copying.specs.CopyingHeapLaw.{copying_is_heap};
-    ghost use Rattle.gc_copying.specs.CollectionLaw.{IsFresh, copying_starts};
+    ghost use Rattle.gc_copying.specs.CollectionLaw.{IsCopyingFresh, copying_starts};
 
     type State = CopyingCollection;
 
@@ -142,13 +142,13 @@ impl GcHeap for CopyingHeap {
 
     ghost taken = { IsCopyingTaken };
 
-    ghost begun = { IsFresh };
+    ghost begun = { IsCopyingFresh };
 
     ghost ticks = { λ state. state.ticks.count };
 
     ghost under_way = { λ s n c at. IsCopyingUnderWay s n c at.heap at.state.phase at.state.ticks.count at.roots at.types at.hosts };
 
-    ghost left = { λ _ state. left_of state.phase };
+    ghost left = { λ _ state. copying_left state.phase };
 
     ghost KIND = { Copying };
 

@@ -17,7 +17,7 @@ pub(crate) mod copy;
 mod growth;
 pub mod heap;
 pub mod layout;
-mod place;
+mod blocks;
 pub(crate) mod space;
 pub(crate) mod ticks;
 mod write;

@@ -4,9 +4,9 @@ use Rattle.std.proofs.lemmas.Bool.{cases_eq, eq-eqb, ne_eqb}
 use Rattle.gc_memory.specs.Lists.{occ}
 use Rattle.gc_memory.proofs.ListLemmas.{occ-same, In-occ, occ-In}
 use Rattle.gc_drc.specs.View.{View}
-use Rattle.gc_drc.specs.Graph.{Graph, names}
+use Rattle.gc_drc.specs.Graph.{CountedGraph, names}
 use Rattle.gc_drc.specs.Unheld.{Unheld, unheld}
-use Rattle.gc_drc.specs.CollectOps.{same, count_of, lowered, hidden, unqueued, freed}
+use Rattle.gc_drc.specs.CollectOps.{same, count_of, uncounted_or_queued, unshown, unqueued, freed}
 use Rattle.gc_drc.specs.CollectStates.{IsView, Cascading}
 use Rattle.gc_drc.proofs.OccLemmas.{same-is, same-not, occ-cond, occ-cases, occ-without, names-at, names-without}
 
@@ -17,9 +17,9 @@ pub record CanLower (v : View) (x : ℕ) : Type 0 where
   pub named : 0 < v.counted x
 
 -- the queue where an object was lowered
-queue_lowered : (v : View) (x y : ℕ) → CanLower v x → (occ y (lowered v x).queue ≤ occ y v.places) × (0 < occ y v.places → 0 < count_of (lowered v x) y)
+queue_lowered : (v : View) (x y : ℕ) → CanLower v x → (occ y (uncounted_or_queued v x).queue ≤ occ y v.places) × (0 < occ y v.places → 0 < count_of (uncounted_or_queued v x) y)
 queue_lowered v x y can =
-    let longer : occ y (lowered v x).queue ≡ cond (nat_eq (count_of v x) 1) (same y x) 0 + occ y v.queue = occ-cond (nat_eq (count_of v x) 1) y x v.queue in
+    let longer : occ y (uncounted_or_queued v x).queue ≡ cond (nat_eq (count_of v x) 1) (same y x) 0 + occ y v.queue = occ-cond (nat_eq (count_of v x) 1) y x v.queue in
     let named : 0 < v.counted x = can.named in
     let once_x : occ x v.places ≤ 1 = can.is_view.once x in
     let queue_y : occ y v.queue ≤ occ y v.places = can.is_view.queue y in
@@ -48,7 +48,7 @@ queue_lowered v x y can =
           ]
     ]
 
-pub lowered_is_view : (v : View) (x : ℕ) → CanLower v x → IsView (lowered v x)
+pub lowered_is_view : (v : View) (x : ℕ) → CanLower v x → IsView (uncounted_or_queued v x)
 lowered_is_view v x can = record {
   once = can.is_view.once;
   shown = can.is_view.shown;
@@ -58,7 +58,7 @@ lowered_is_view v x can = record {
 }
 
 -- the first word that is to be lowered names a held object
-pub cascading_can_lower : (g : Graph) (v : View) (x : ℕ) (pending : List ℕ) → IsView v → Cascading g v (x ∷ pending) → 0 < occ x g.places → CanLower v x
+pub cascading_can_lower : (g : CountedGraph) (v : View) (x : ℕ) (pending : List ℕ) → IsView v → Cascading g v (x ∷ pending) → 0 < occ x g.places → CanLower v x
 cascading_can_lower g v x pending is c h =
     let counts = c.counts x h in
     let one = occ-same x pending in
@@ -72,7 +72,7 @@ cascading_can_lower g v x pending is c h =
       named = named;
     }
 
-pub cascading_lowered : (g : Graph) (v : View) (x : ℕ) (pending : List ℕ) → Cascading g v (x ∷ pending) → Cascading g (lowered v x) pending
+pub cascading_lowered : (g : CountedGraph) (v : View) (x : ℕ) (pending : List ℕ) → Cascading g v (x ∷ pending) → Cascading g (uncounted_or_queued v x) pending
 cascading_lowered g v x pending c = record {
   counts = λ y h. let e : v.counted y ≡ names g v.places y + occ y g.roots + (same y x + occ y pending) = c.counts y h in omega arith;
   from = c.from;
@@ -82,7 +82,7 @@ cascading_lowered g v x pending c = record {
 }
 
 -- a word that is no place of an object counts nowhere
-pub cascading_skipped : (g : Graph) (v : View) (x : ℕ) (pending : List ℕ) → Cascading g v (x ∷ pending) → occ x g.places ≡ 0 → Cascading g v pending
+pub cascading_skipped : (g : CountedGraph) (v : View) (x : ℕ) (pending : List ℕ) → Cascading g v (x ∷ pending) → occ x g.places ≡ 0 → Cascading g v pending
 cascading_skipped g v x pending c no_place = record {
   counts = λ y h.
       let e : v.counted y ≡ names g v.places y + occ y g.roots + (same y x + occ y pending) = c.counts y h in
@@ -95,7 +95,7 @@ cascading_skipped g v x pending c no_place = record {
 }
 
 -- An object is freed that nothing names and that isn't shown; it was unheld. What it names is to be lowered.
-pub cascading_freed : (g : Graph) (v : View) (x : ℕ) → Cascading g v [] → IsView v → 0 < occ x v.places → v.counted x ≡ 0 → occ x v.shown ≡ 0
+pub cascading_freed : (g : CountedGraph) (v : View) (x : ℕ) → Cascading g v [] → IsView v → 0 < occ x v.places → v.counted x ≡ 0 → occ x v.shown ≡ 0
     → Cascading g (freed v x) (g.words x)
 cascading_freed g v x c is held none not_shown =
     let place : 0 < occ x g.places = let f = c.from x in omega arith in
@@ -145,7 +145,7 @@ unqueued_is_view v x is queued more = record {
       ];
 }
 
-pub cascading_unqueued : (g : Graph) (v : View) (x : ℕ) (pending : List ℕ) → Cascading g v pending → Cascading g (unqueued v x) pending
+pub cascading_unqueued : (g : CountedGraph) (v : View) (x : ℕ) (pending : List ℕ) → Cascading g v pending → Cascading g (unqueued v x) pending
 cascading_unqueued g v x pending c = record { counts = c.counts; from = c.from; gone = c.gone; shown = c.shown; freed = c.freed }
 
 -- off the queue and freed: nothing names the object
@@ -177,7 +177,7 @@ freed_is_view v x is queued alone not_marked =
     }
 
 -- off the list of shown words: the share of the count is a name that is still to be lowered
-pub hidden_is_view : (v : View) (x : ℕ) → IsView v → 0 < occ x v.shown → IsView (hidden v x)
+pub hidden_is_view : (v : View) (x : ℕ) → IsView v → 0 < occ x v.shown → IsView (unshown v x)
 hidden_is_view v x is on_list = record {
   once = is.once;
   shown = λ y. let w = occ-without x y v.shown on_list in let s = is.shown y in omega arith;
@@ -186,8 +186,8 @@ hidden_is_view v x is on_list = record {
   positive = λ y h. let w = occ-without x y v.shown on_list in let p : 0 < count_of v y = is.positive y h in omega arith;
 }
 
-pub cascading_hidden : (g : Graph) (v : View) (x : ℕ) (pending : List ℕ) → IsView v → Cascading g v pending → 0 < occ x v.shown → occ x g.frames ≡ 0
-    → Cascading g (hidden v x) (x ∷ pending)
+pub cascading_hidden : (g : CountedGraph) (v : View) (x : ℕ) (pending : List ℕ) → IsView v → Cascading g v pending → 0 < occ x v.shown → occ x g.frames ≡ 0
+    → Cascading g (unshown v x) (x ∷ pending)
 cascading_hidden g v x pending is c on_list no_frame =
     let held : 0 < occ x v.places = let s = is.shown x in omega arith in
     record {

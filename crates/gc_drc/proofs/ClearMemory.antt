@@ -5,7 +5,7 @@ use Rattle.gc_memory.specs.Lists.{In, here, occ}
 use Rattle.gc_memory.proofs.ListLemmas.{occ-In, occ-same}
 use Rattle.gc_free.specs.Space.{places_end}
 use Rattle.gc_drc.specs.declared.space.CountedSpace.{CountedSpace}
-use Rattle.gc_drc.specs.Layout.{size_at, block_of}
+use Rattle.gc_drc.specs.Layout.{counting_size_at, block_of}
 use Rattle.gc_drc.specs.View.{View}
 use Rattle.gc_drc.specs.PlaceLaws.{spread-lies, spread-apart}
 use Rattle.gc_drc.specs.SpaceLaws.{blocks_apart}
@@ -43,13 +43,13 @@ module _ (c : Context) (places : List ℕ) (s : CountedSpace) (end place : ℕ) 
   at_one h = elim w.is_at [ inl e ↦ absurd (omega arith) | inr i ↦ i ]
 
   -- the place behind its block
-  border_is : (from : ℕ) → place < end → from ≡ place + block_of (size_at s.memory place) → IsBorder w.view from
+  border_is : (from : ℕ) → place < end → from ≡ place + block_of (counting_size_at s.memory place) → IsBorder w.view from
   border_is from h e =
       let held = held_of (at_one h) in
       inr (place, (held, e ∙ ap (λ (n : ℕ). place + block_of n) (w.at.holds.objects place held).size_is))
 
   -- an object is passed, and its mark is cleared
-  passed : (s' : CountedSpace) (from next : ℕ) → place < end → from ≡ place + block_of (size_at s.memory place) → IsNext w.view.places (walk_end s) from next
+  passed : (s' : CountedSpace) (from next : ℕ) → place < end → from ≡ place + block_of (counting_size_at s.memory place) → IsNext w.view.places (walk_end s) from next
       → At c (unmarked w.view place) s' → Clearing c places s' end next
   passed s' from next h e n at' =
       let i = at_one h in
@@ -115,7 +115,7 @@ module _ (s s' : CountedSpace) (end place : ℕ) (clears : Clears s s' end place
       let w = clears can.0 can.1.0 can.1.1 in
       record { context = can.0; view = w.view; at = w.at; held = held_of can.0 can.1.0 s' end place w (at_one can.0 can.1.0 s' end place w h) }
 
-  pub clear_can_walk : (from : ℕ) → place < end → 16 ≤ end → from ≡ place + block_of (size_at s'.memory place) → (c : Context) × ((places : List ℕ) × AllMarked c places s) → CanWalk s' from
+  pub clear_can_walk : (from : ℕ) → place < end → 16 ≤ end → from ≡ place + block_of (counting_size_at s'.memory place) → (c : Context) × ((places : List ℕ) × AllMarked c places s) → CanWalk s' from
   clear_can_walk from h some e can =
       let w = clears can.0 can.1.0 can.1.1 in
       let end_w = w.end_is in
@@ -126,7 +126,7 @@ module _ (s s' : CountedSpace) (end place : ℕ) (clears : Clears s s' end place
       let w = clears can.0 can.1.0 can.1.1 in
       record { context = can.0; view = w.view; at = w.at; is_marked = w.left place (at_one can.0 can.1.0 s' end place w h) (omega arith) }
 
-  pub clear_on : (s2 : CountedSpace) (from next : ℕ) → place < end → from ≡ place + block_of (size_at s'.memory place)
+  pub clear_on : (s2 : CountedSpace) (from next : ℕ) → place < end → from ≡ place + block_of (counting_size_at s'.memory place)
       → ((c : Context) (v : View) → At c v s' → IsBorder v from → IsNext v.places (walk_end s') from next)
       → ((c : Context) (v : View) → At c v s' → 0 < occ place v.marked → At c (unmarked v place) s2) → Clears s s2 end next
   clear_on s2 from next h e next_is unmarks c places a =
@@ -135,7 +135,7 @@ module _ (s s' : CountedSpace) (end place : ℕ) (clears : Clears s s' end place
       passed c places s' end place w s2 from next h e n (unmarks c w.view w.at (w.left place (at_one c places s' end place w h) (omega arith)))
 
   -- each step of the walk goes on
-  pub clear_less : (from next : ℕ) → place < end → from ≡ place + block_of (size_at s'.memory place)
+  pub clear_less : (from next : ℕ) → place < end → from ≡ place + block_of (counting_size_at s'.memory place)
       → ((c : Context) (v : View) → At c v s' → IsBorder v from → IsNext v.places (walk_end s') from next)
       → (c : Context) × ((places : List ℕ) × AllMarked c places s) → end - next < end - place
   clear_less from next h e next_is can =

@@ -8,7 +8,7 @@ use Rattle.gc_memory.specs.Lists.{In, occ}
 use Rattle.gc_memory.proofs.ListLemmas.{occ-In, In-occ}
 use Rattle.gc_view.specs.Heaps.{Counts}
 use Rattle.gc_drc.specs.declared.space.CountedSpace.{CountedSpace}
-use Rattle.gc_drc.specs.View.{View, Holds, IsPart}
+use Rattle.gc_drc.specs.View.{View, HoldsBlocks, IsPart}
 use Rattle.gc_drc.specs.Content.{at_places, places_of, shown_at, queued_at, counted_at, counts_at}
 use Rattle.gc_drc.specs.PlaceLaws.{in_filter}
 use Rattle.gc_drc.specs.SpaceLaws.{places_are}
@@ -22,21 +22,21 @@ counts_of v = record {
   queued = finset.from_list v.queue;
 }
 
-pub shown_is : (v : View) (s : CountedSpace) (p : ℕ) → Holds v s → In p v.places → shown_at s.memory p ≡ occ p v.shown
+pub shown_is : (v : View) (s : CountedSpace) (p : ℕ) → HoldsBlocks v s → In p v.places → shown_at s.memory p ≡ occ p v.shown
 shown_is v s p h i =
     let f = (h.objects p i).flags_are in
     let a = h.shown_part.once p in
     let b = h.queue_part.once p in
     let c = h.marked_part.once p in omega arith
 
-pub queued_is : (v : View) (s : CountedSpace) (p : ℕ) → Holds v s → In p v.places → queued_at s.memory p ≡ occ p v.queue
+pub queued_is : (v : View) (s : CountedSpace) (p : ℕ) → HoldsBlocks v s → In p v.places → queued_at s.memory p ≡ occ p v.queue
 queued_is v s p h i =
     let f = (h.objects p i).flags_are in
     let a = h.shown_part.once p in
     let b = h.queue_part.once p in
     let c = h.marked_part.once p in omega arith
 
-pub counted_is : (v : View) (s : CountedSpace) (p : ℕ) → Holds v s → In p v.places → counted_at s.memory p ≡ v.counted p
+pub counted_is : (v : View) (s : CountedSpace) (p : ℕ) → HoldsBlocks v s → In p v.places → counted_at s.memory p ≡ v.counted p
 counted_is v s p h i =
     let c = (h.objects p i).count_is in
     let a = shown_is v s p h i in
@@ -59,7 +59,7 @@ by_flag flag places list part is = same_members _ _
         true_false e = cc
 
 -- the counts that are seen are those of the view
-pub counts_are : (v : View) (s : CountedSpace) → Holds v s → counts_at s.memory (places_of s.free.space.held) ≡ counts_of v
+pub counts_are : (v : View) (s : CountedSpace) → HoldsBlocks v s → counts_at s.memory (places_of s.free.space.held) ≡ counts_of v
 counts_are v s h = ap (counts_at s.memory) (places_are v s h) ∙ (λ i. record {
   counted = at_places-same v.counted (counted_at s.memory) v.places (λ p j. counted_is v s p h j) i;
   shown = by_flag (shown_at s.memory) v.places v.shown h.shown_part (λ p j. shown_is v s p h j) i;

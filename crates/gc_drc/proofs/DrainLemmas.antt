@@ -10,18 +10,18 @@ use Rattle.gc_memory.specs.Words.{word, word64}
 use Rattle.gc_memory.specs.Lists.{In, here, there, occ, sum_over}
 use Rattle.gc_memory.proofs.ListLemmas.{In-occ, occ-In, occ-same, sum_over-same}
 use Rattle.gc_drc.specs.declared.space.CountedSpace.{CountedSpace}
-use Rattle.gc_drc.specs.Layout.{kind_at}
+use Rattle.gc_drc.specs.Layout.{counting_kind_at}
 use Rattle.gc_drc.specs.View.{View, count_of}
 use Rattle.gc_drc.specs.Content.{places_of}
 use Rattle.gc_drc.specs.SpaceLaws.{places_are}
-use Rattle.gc_drc.specs.CollectOps.{same, without_one, lowered, unqueued, freed}
+use Rattle.gc_drc.specs.CollectOps.{same, without_one, uncounted_or_queued, unqueued, freed}
 use Rattle.gc_drc.specs.CollectStates.{Draining}
-use Rattle.gc_drc.specs.CollectMemory.{Context, IsContext, IsWord, Intact, At, CanLowerAt, CanFreeQueued, CanLeave}
+use Rattle.gc_drc.specs.CollectMemory.{Context, IsContext, IsCountingWord, Intact, At, CanLowerAt, CanFreeQueued, CanLeave}
 use Rattle.gc_refs.specs.Header.{IsOfKind}
 use Rattle.gc_drc.specs.CollectVisits.{CanVisitObject}
 use Rattle.gc_drc.proofs.RewriteLemmas.{kind_at_same}
 use Rattle.gc_drc.specs.CollectHosts.{FreesHostOf, HostsLeft}
-use Rattle.gc_drc.specs.CollectDrain.{IsPlaceWord, Lowering, Drain, CanDrain, drain_left}
+use Rattle.gc_drc.specs.CollectDrain.{IsCountingPlace, Lowering, Drain, CanDrain, drain_left}
 use Rattle.gc_drc.proofs.OccLemmas.{same-is, same-not, occ-without, occ-cases}
 use Rattle.gc_drc.proofs.SweepLemmas.{drain_leaves, drain_frees, drain_can_lower, drain_lowers, drain_skips}
 use Rattle.gc_drc.proofs.LinkLemmas.{linked_begins}
@@ -37,13 +37,13 @@ not_both false e f = absurd (cc)
 
 -- WORDS
 
-pub place_in : (c : Context) (w : ℕ) → IsWord c w → IsPlaceWord w → In w c.graph.places
+pub place_in : (c : Context) (w : ℕ) → IsCountingWord c w → IsCountingPlace w → In w c.graph.places
 place_in c w (inl e) is = absurd (let h = is.not_null in omega arith)
 place_in c w (inr (inl e)) is = absurd (let h = is.even in omega arith)
 place_in c w (inr (inr i)) is = i
 
 -- a word that is no place counts nowhere
-pub no_place : (c : Context) (w : ℕ) → IsContext c → (IsPlaceWord w → ⊥) → occ w c.graph.places ≡ 0
+pub no_place : (c : Context) (w : ℕ) → IsContext c → (IsCountingPlace w → ⊥) → occ w c.graph.places ≡ 0
 no_place c w start isnt = elim (occ-cases w c.graph.places) [
   | inl none ↦ none
   | inr some ↦
@@ -54,25 +54,25 @@ no_place c w start isnt = elim (occ-cases w c.graph.places) [
 
 -- LOWERING
 
-pub lowering_can : (c : Context) (places : List ℕ) (s : CountedSpace) (w : ℕ) (rest : List ℕ) → Lowering c places s (w ∷ rest) → IsPlaceWord w → CanLowerAt s w
+pub lowering_can : (c : Context) (places : List ℕ) (s : CountedSpace) (w : ℕ) (rest : List ℕ) → Lowering c places s (w ∷ rest) → IsCountingPlace w → CanLowerAt s w
 lowering_can c places s w rest l is =
     let can = drain_can_lower c.graph l.view w rest l.draining (In-occ w c.graph.places (place_in c w (l.known w here) is)) in
     record { context = c; view = l.view; at = l.at; held = occ-In w l.view.places can.held; named = can.named }
 
-pub lowering_lowers : (c : Context) (places : List ℕ) (s s' : CountedSpace) (w : ℕ) (rest : List ℕ) → Lowering c places s (w ∷ rest) → IsPlaceWord w
-    → ((o : Context) (v : View) → At o v s → In w v.places → 0 < v.counted w → At o (lowered v w) s') → Lowering c places s' rest
+pub lowering_lowers : (c : Context) (places : List ℕ) (s s' : CountedSpace) (w : ℕ) (rest : List ℕ) → Lowering c places s (w ∷ rest) → IsCountingPlace w
+    → ((o : Context) (v : View) → At o v s → In w v.places → 0 < v.counted w → At o (uncounted_or_queued v w) s') → Lowering c places s' rest
 lowering_lowers c places s s' w rest l is takes =
     let place = In-occ w c.graph.places (place_in c w (l.known w here) is) in
     let can = drain_can_lower c.graph l.view w rest l.draining place in
     record {
-      view = lowered l.view w;
+      view = uncounted_or_queued l.view w;
       at = takes c l.view l.at (occ-In w l.view.places can.held) can.named;
       draining = drain_lowers c.graph l.view w rest l.draining place;
       places_are = l.places_are;
       known = λ q i. l.known q (there i);
     }
 
-pub lowering_skips : (c : Context) (places : List ℕ) (s : CountedSpace) (w : ℕ) (rest : List ℕ) → Lowering c places s (w ∷ rest) → (IsPlaceWord w → ⊥) → Lowering c places s rest
+pub lowering_skips : (c : Context) (places : List ℕ) (s : CountedSpace) (w : ℕ) (rest : List ℕ) → Lowering c places s (w ∷ rest) → (IsCountingPlace w → ⊥) → Lowering c places s rest
 lowering_skips c places s w rest l isnt = record {
   view = l.view;
   at = l.at;
@@ -262,22 +262,22 @@ free_can_visit D types old new s s1 n some read one frees_host frees can =
     }
 
 -- what is asked of the first of the queue
-pub first_kind : (D : Type 0) (types : List Declaration) (s : CountedSpace) (now : finite.FinMap nat_cmp D) → CanDrain D types s now → 0 < s.queued → IsOfKind (kind_at s.memory s.queued) (word s.memory s.queued)
+pub first_kind : (D : Type 0) (types : List Declaration) (s : CountedSpace) (now : finite.FinMap nat_cmp D) → CanDrain D types s now → 0 < s.queued → IsOfKind (counting_kind_at s.memory s.queued) (word s.memory s.queued)
 first_kind D types s now can some =
     let d = can.drain in
     let f = first_queued can.context d.view s d.at some in
     kind_part_same can.context s.memory s.queued d.at.start d.at.intact f.place_in
 
-pub external_room : (c : Context) (m : List ℕ) (x : ℕ) → IsContext c → Intact c m → In x c.graph.places → kind_at m x ≡ ExternRef → x + 32 ≤ length m
+pub external_room : (c : Context) (m : List ℕ) (x : ℕ) → IsContext c → Intact c m → In x c.graph.places → counting_kind_at m x ≡ ExternRef → x + 32 ≤ length m
 external_room c m x start intact i is =
     let o = intact.objects x i in
-    let kind : kind_at c.memory x ≡ ExternRef = sym (kind_at_same c.memory m x o.kind) ∙ is in
+    let kind : counting_kind_at c.memory x ≡ ExternRef = sym (kind_at_same c.memory m x o.kind) ∙ is in
     let size = (start.externals x i kind).size in
     let inside = (start.lies x i).inside in
     let len = intact.same_length in
     omega arith
 
-pub first_external : (D : Type 0) (types : List Declaration) (s : CountedSpace) (now : finite.FinMap nat_cmp D) → CanDrain D types s now → 0 < s.queued → kind_at s.memory s.queued ≡ ExternRef → s.queued + 32 ≤ length s.memory
+pub first_external : (D : Type 0) (types : List Declaration) (s : CountedSpace) (now : finite.FinMap nat_cmp D) → CanDrain D types s now → 0 < s.queued → counting_kind_at s.memory s.queued ≡ ExternRef → s.queued + 32 ≤ length s.memory
 first_external D types s now can some is =
     let d = can.drain in
     let f = first_queued can.context d.view s d.at some in

@@ -6,7 +6,7 @@ use Rattle.gc_memory.specs.Lists.{In, here, there}
 use Rattle.gc_free.specs.declared.run.Run.{Run}
 use Rattle.gc_free.specs.Runs.{run, gap, gaps}
 use Rattle.gc_free.specs.Orders.{shortest_fit}
-use Rattle.gc_free.specs.Space.{Space, IsSound, IsBetween, take, take_from, taken_from, take_shortest, rest_of, free_runs, places_end}
+use Rattle.gc_free.specs.Space.{Space, IsSound, IsBetween, take, take_from, taken_from, take_shortest, run_rest, free_runs, places_end}
 use Rattle.gc_free.proofs.ByLength as runs
 use Rattle.gc_free.proofs.Taking.{shortest_found}
 use Rattle.gc_drc.specs.Layout.{block_of}
@@ -64,7 +64,7 @@ shortest_begins sizes ps size s p (Some r) blocks found e =
 from_begins : (sizes : ℕ → ℕ) (ps : List ℕ) (size : ℕ) (s : Space) (p : ℕ) (o : Option Run) → s.held ≡ map (block_at sizes) ps
     → MatchOption o (Unit {0}) (λ c. IsBetween c 16 (places_end s.capacity) s.held) → (take_from size s o).place ≡ Some p → Begins sizes 16 ps p
 from_begins sizes ps size s p None blocks between e = shortest_begins sizes ps size s p (shortest_fit size (free_runs s)) blocks refl e
-from_begins sizes ps size s p (Some c) blocks between e = elim (nat_le size c.length) as (λ b. (cond b (taken_from size s c (Some (rest_of size c))) (take_shortest size s (shortest_fit size (free_runs s)))).place ≡ Some p → Begins sizes 16 ps p) [
+from_begins sizes ps size s p (Some c) blocks between e = elim (nat_le size c.length) as (λ b. (cond b (taken_from size s c (Some (run_rest size c))) (take_shortest size s (shortest_fit size (free_runs s)))).place ≡ Some p → Begins sizes 16 ps p) [
   | true ↦ λ at. subst (Begins sizes 16 ps) (some_place c.place p at)
       (between_begins sizes 16 (places_end s.capacity) ps c (subst (IsBetween c 16 (places_end s.capacity)) blocks between))
   | false ↦ λ at. shortest_begins sizes ps size s p (shortest_fit size (free_runs s)) blocks refl at

@@ -17,15 +17,15 @@ use Rattle.gc_heap.specs.Content.{block_size}
 use Rattle.gc_heap.specs.Objects.{held_size}
 use Rattle.gc_heap.specs.Heap.{CanGiveBack}
 use Rattle.gc_drc.specs.declared.space.CountedSpace.{CountedSpace}
-use Rattle.gc_drc.specs.Layout.{size_at, block_of, object_at}
-use Rattle.gc_drc.specs.View.{View, block_at, Holds, IsPart}
-use Rattle.gc_drc.specs.Content.{at_places, places_of, counts_at, seen_in, IsSoundSpace}
+use Rattle.gc_drc.specs.Layout.{counting_size_at, block_of, counting_object_at}
+use Rattle.gc_drc.specs.View.{View, block_at, HoldsBlocks, IsPart}
+use Rattle.gc_drc.specs.Content.{at_places, places_of, counts_at, counting_seen_in, IsSoundSpace}
 use Rattle.gc_drc.proofs.CountsSeen.{counts_of}
 use Rattle.gc_drc.specs.PlaceLaws.{in_or_not, get_in, get_none, found_in, spread-not_behind, in_filter}
 use Rattle.gc_drc.proofs.PlaceLemmas.{filter_in, contains_in}
 use Rattle.gc_drc.specs.SpaceLaws.{lies, blocks_apart, places_are, held_size-in}
 use Rattle.gc_drc.proofs.CountsSeen.{counts_are}
-use Rattle.gc_drc.specs.Giving.{CanGive, Gives}
+use Rattle.gc_drc.specs.Giving.{IsUnlisted, GivesBack}
 use Rattle.gc_drc.proofs.SeenLemmas.{same_view}
 
 -- the others than a place
@@ -110,18 +110,18 @@ at_places-without {X} f x ps = finite.same_map nat_cmp_total finite.nat_cmp-IsAn
 pub record Block (s : CountedSpace) (x : ℕ) : Type 0 where
   pub room : x + 28 ≤ length s.memory
   pub not_null : 0 < x
-  pub fits : block_of (size_at s.memory x) < 2 ^ 32
-  pub held : Contains s.free.space.held (run x (block_of (size_at s.memory x)))
+  pub fits : block_of (counting_size_at s.memory x) < 2 ^ 32
+  pub held : Contains s.free.space.held (run x (block_of (counting_size_at s.memory x)))
   pub some : 0 < s.objects
-  pub enough : block_of (size_at s.memory x) ≤ s.allocated
+  pub enough : block_of (counting_size_at s.memory x) ≤ s.allocated
 
-pub block_at_place : (s : CountedSpace) (x : ℕ) → CanGive s x → Block s x
+pub block_at_place : (s : CountedSpace) (x : ℕ) → IsUnlisted s x → Block s x
 block_at_place s x can =
     let v = can.view in
     let h = can.holds in
     let l = lies v s x h can.place in
     let size = (h.objects x can.place).size_is in
-    let block : block_of (size_at s.memory x) ≡ block_of (v.sizes x) = ap block_of size in
+    let block : block_of (counting_size_at s.memory x) ≡ block_of (v.sizes x) = ap block_of size in
     let gone = less (λ p. block_of (v.sizes p)) v.sizes x 16 (places_end s.free.space.capacity) v.places (blocks_apart v s h) can.place in
     let one = gone.one in
     let sum = gone.sum in
@@ -152,22 +152,22 @@ part_less places list x part none = record {
   once = part.once;
 }
 
-pub gives : (s t : CountedSpace) (x : ℕ) → CanGive s x → t ≡ record s { free = t.free; objects = s.objects - 1; allocated = s.allocated - block_of (size_at s.memory x) }
-    → t.free.space ≡ give (run x (block_of (size_at s.memory x))) s.free.space → IsSound t.free.space → Gives s t x
+pub gives : (s t : CountedSpace) (x : ℕ) → IsUnlisted s x → t ≡ record s { free = t.free; objects = s.objects - 1; allocated = s.allocated - block_of (counting_size_at s.memory x) }
+    → t.free.space ≡ give (run x (block_of (counting_size_at s.memory x))) s.free.space → IsSound t.free.space → GivesBack s t x
 gives s t x can is given sound =
     let v = can.view in
     let h = can.holds in
     let block = block_at_place s x can in
     let size = (h.objects x can.place).size_is in
-    let sized : block_of (size_at s.memory x) ≡ block_of (v.sizes x) = ap block_of size in
+    let sized : block_of (counting_size_at s.memory x) ≡ block_of (v.sizes x) = ap block_of size in
     let gone = less (λ p. block_of (v.sizes p)) v.sizes x 16 (places_end s.free.space.capacity) v.places (blocks_apart v s h) can.place in
     let one = gone.one in
     let sum = gone.sum in
     let count = h.count in
     let allocated = h.allocated in
-    let u : CountedSpace = record s { free = t.free; objects = s.objects - 1; allocated = s.allocated - block_of (size_at s.memory x) } in
+    let u : CountedSpace = record s { free = t.free; objects = s.objects - 1; allocated = s.allocated - block_of (counting_size_at s.memory x) } in
     let w : View = record v { places = without_place x v.places } in
-    let after : Holds w u = record {
+    let after : HoldsBlocks w u = record {
       pages = h.pages;
       bound = h.bound;
       capacity = ap (λ (f : Space). f.capacity) given ∙ h.capacity;
@@ -182,23 +182,23 @@ gives s t x can is given sound =
       count = omega arith;
       allocated = omega arith;
     } in
-    let content : at_places (object_at s.memory) (places_of t.free.space.held) ≡ finite.remove (at_places (object_at s.memory) (places_of s.free.space.held)) x =
-    ap (at_places (object_at s.memory)) (places_are w u after) ∙ at_places-without (object_at s.memory) x v.places
-    ∙ ap (λ ps. finite.remove (at_places (object_at s.memory) ps) x) (sym (places_are v s h)) in
+    let content : at_places (counting_object_at s.memory) (places_of t.free.space.held) ≡ finite.remove (at_places (counting_object_at s.memory) (places_of s.free.space.held)) x =
+    ap (at_places (counting_object_at s.memory)) (places_are w u after) ∙ at_places-without (counting_object_at s.memory) x v.places
+    ∙ ap (λ ps. finite.remove (at_places (counting_object_at s.memory) ps) x) (sym (places_are v s h)) in
     let counts : counts_at s.memory (places_of t.free.space.held) ≡ record (counts_at s.memory (places_of s.free.space.held)) { counted = finite.remove (counts_at s.memory (places_of s.free.space.held)).counted x } =
     counts_are w u after
     ∙ ap (λ m. record (counts_of v) { counted = m }) (at_places-without v.counted x v.places)
     ∙ ap (λ (c : Counts). record c { counted = finite.remove c.counted x }) (sym (counts_are v s h)) in
-    subst (λ y. Gives s y x) (sym is) (record {
+    subst (λ y. GivesBack s y x) (sym is) (record {
       sound = record { view = w; holds = after; unmarked = can.unmarked };
       seen = λ scopes o e.
-          let f = found_in (object_at s.memory) x o (places_of s.free.space.held) e in
-          let bytes : block_size Counting o ≡ block_of (size_at s.memory x) = ap block_of (ap (held_size Counting) f.1 ∙ held_size-in v s x h can.place ∙ sym size) in
+          let f = found_in (counting_object_at s.memory) x o (places_of s.free.space.held) e in
+          let bytes : block_size Counting o ≡ block_of (counting_size_at s.memory x) = ap block_of (ap (held_size Counting) f.1 ∙ held_size-in v s x h can.place ∙ sym size) in
           same_view _ _ refl content refl (ap (λ n. s.allocated - n) (sym bytes)) refl refl counts;
     })
 
 -- an object that may be given back is on no list
-pub can_give : (s : CountedSpace) (scopes x : ℕ) {K : VMGcKind → Type 0} → IsSoundSpace s → CanGiveBack (seen_in scopes s) x K → CanGive s x
+pub can_give : (s : CountedSpace) (scopes x : ℕ) {K : VMGcKind → Type 0} → IsSoundSpace s → CanGiveBack (counting_seen_in scopes s) x K → IsUnlisted s x
 can_give s scopes x sound can =
     let v = sound.view in
     let h = sound.holds in
@@ -207,7 +207,7 @@ can_give s scopes x sound can =
       view = v;
       holds = h;
       unmarked = sound.unmarked;
-      place = subst (In x) (places_are v s h) (found_in (object_at s.memory) x can.object (places_of s.free.space.held) can.held).0;
+      place = subst (In x) (places_are v s h) (found_in (counting_object_at s.memory) x can.object (places_of s.free.space.held) can.held).0;
       not_shown = occ-none x v.shown (λ i. true_false (sym (contains_in x v.shown i) ∙ ap (λ (c : Counts). finset.contains c.shown x) (sym are) ∙ can.not_shown));
       not_queued = occ-none x v.queue (λ i. true_false (sym (contains_in x v.queue i) ∙ ap (λ (c : Counts). finset.contains c.queued x) (sym are) ∙ can.not_queued));
     }

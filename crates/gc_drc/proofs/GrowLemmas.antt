@@ -16,9 +16,9 @@ use Rattle.gc_free.specs.Runs.{gap}
 use Rattle.gc_free.specs.Space.{Space, IsSound, new_space, places_end, merge_all, grow}
 use Rattle.gc_free.specs.declared.run.TheConstants.{ALIGN}
 use Rattle.gc_drc.specs.declared.space.CountedSpace.{CountedSpace}
-use Rattle.gc_drc.specs.Layout.{size_at, kind_at, data_at, object_at, IsWhole}
-use Rattle.gc_drc.specs.View.{View, Holds, Linked, last}
-use Rattle.gc_drc.specs.Content.{at_places, places_of, counts_at, seen_in, IsSoundSpace}
+use Rattle.gc_drc.specs.Layout.{counting_size_at, counting_kind_at, counting_data_at, counting_object_at, IsCountingWhole}
+use Rattle.gc_drc.specs.View.{View, HoldsBlocks, Linked, last}
+use Rattle.gc_drc.specs.Content.{at_places, places_of, counts_at, counting_seen_in, IsSoundSpace}
 use Rattle.gc_drc.proofs.PlaceLemmas.{at_places-same}
 use Rattle.gc_drc.specs.SpaceLaws.{lies, places_are, least_size}
 use Rattle.gc_drc.proofs.CountsSeen.{counts_are}
@@ -52,10 +52,10 @@ empty_sound s made sound pages bound shown queued objects allocated = record {
   unmarked = refl;
 }
 
-pub empty_seen : (s : CountedSpace) (scopes : ℕ) → s.free.space ≡ new_space (length s.memory) → s.allocated ≡ 0 → seen_in scopes s ≡ empty_heap Counting (length s.memory) scopes
+pub empty_seen : (s : CountedSpace) (scopes : ℕ) → s.free.space ≡ new_space (length s.memory) → s.allocated ≡ 0 → counting_seen_in scopes s ≡ empty_heap Counting (length s.memory) scopes
 empty_seen s scopes made allocated =
     let held : s.free.space.held ≡ [] = ap (λ (f : Space). f.held) made in
-    same_view _ _ refl (ap (λ h. at_places (object_at s.memory) (places_of h)) held) refl allocated refl refl (ap (λ h. counts_at s.memory (places_of h)) held)
+    same_view _ _ refl (ap (λ h. at_places (counting_object_at s.memory) (places_of h)) held) refl allocated refl refl (ap (λ h. counts_at s.memory (places_of h)) held)
 
 -- MORE BYTES
 
@@ -74,24 +74,24 @@ part_grown bytes more p n h =
 
 -- What is as before of an object.
 record GrownObject (a b : List ℕ) (p : ℕ) : Type 0 where
-  pub object : object_at b p ≡ object_at a p
-  pub whole : IsWhole b p
+  pub object : counting_object_at b p ≡ counting_object_at a p
+  pub whole : IsCountingWhole b p
 
-grown_object : (a : List ℕ) (p n : ℕ) → IsWhole a p → p + size_at a p ≤ length a → GrownObject a (a ++ replicate n 0) p
-unfolding kind_at
+grown_object : (a : List ℕ) (p n : ℕ) → IsCountingWhole a p → p + counting_size_at a p ≤ length a → GrownObject a (a ++ replicate n 0) p
+unfolding counting_kind_at
 grown_object a p n w inside =
     let b : List ℕ = a ++ replicate n 0 in
     let least = least_size a p w in
     let first : word b p ≡ word a p = word-grown a n p in
-    let size : size_at b p ≡ size_at a p = word-grown a n (p + 20) in
+    let size : counting_size_at b p ≡ counting_size_at a p = word-grown a n (p + 20) in
     let kind : kind_of (kind_part (word b p)) ≡ kind_of (kind_part (word a p)) = ap (λ w. kind_of (kind_part w)) first in
-    let data_same : data_at b p ≡ data_at a p = ap (λ k. take (k - 28) (drop (p + 28) b)) size ∙ part_grown a (replicate n 0) (p + 28) (size_at a p - 28) (omega arith) in
+    let data_same : counting_data_at b p ≡ counting_data_at a p = ap (λ k. take (k - 28) (drop (p + 28) b)) size ∙ part_grown a (replicate n 0) (p + 28) (counting_size_at a p - 28) (omega arith) in
     record {
       object = same_object _ _ kind (word-grown a n (p + 4)) (ap (λ w. w % spare_bits / 8 * 8) first) data_same;
       whole = record {
         kind = ap kind_bits kind ∙ w.kind ∙ ap kind_part (sym first);
         object_kind = subst IsObjectKind (sym kind) w.object_kind;
-        least = subst (λ k. first_offset Counting k ≤ size_at b p) (sym kind) (subst (λ n. first_offset Counting (kind_of (kind_part (word a p))) ≤ n) (sym size) w.least);
+        least = subst (λ k. first_offset Counting k ≤ counting_size_at b p) (sym kind) (subst (λ n. first_offset Counting (kind_of (kind_part (word a p))) ≤ n) (sym size) w.least);
         external = λ e.
             let y = w.external (sym kind ∙ e) in
             let id : word b (p + 28) ≡ word a (p + 28) = word-grown a n (p + 28) in
@@ -102,7 +102,7 @@ grown_object a p n w inside =
 -- What a growth does to a space.
 pub record Grows (s t : CountedSpace) (n : ℕ) : Type 0 where
   pub sound : IsSoundSpace t
-  pub seen : (scopes : ℕ) → seen_in scopes t ≡ grown Counting (seen_in scopes s) n
+  pub seen : (scopes : ℕ) → counting_seen_in scopes t ≡ grown Counting (counting_seen_in scopes s) n
 
 pub grows : (s t : CountedSpace) (memory : List ℕ) (n : ℕ) → IsSoundSpace s → memory ≡ s.memory ++ replicate n 0 → length memory % page ≡ 0 → length memory ≤ page * max_pages
     → t ≡ record s { memory = memory; free = t.free } → t.free.space ≡ grow n s.free.space → IsSound t.free.space → Grows s t n
@@ -121,7 +121,7 @@ grows s t memory n sound grown_by pages bound is made list_sound =
     let l = (lies v s p h i).inside in
     let size = (h.objects p i).size_is in
     grown_object s.memory p n (h.objects p i).whole (omega arith) in
-    let after : Holds v u = record {
+    let after : HoldsBlocks v u = record {
       pages = ap (λ n. n % page) (sym len_memory) ∙ pages;
       bound = omega arith;
       capacity = omega arith;
@@ -144,11 +144,11 @@ grows s t memory n sound grown_by pages bound is made list_sound =
       count = h.count;
       allocated = h.allocated;
     } in
-    let content : at_places (object_at m) (places_of t.free.space.held) ≡ at_places (object_at s.memory) (places_of s.free.space.held) =
-    ap (λ rs. at_places (object_at m) (places_of rs)) held
-    ∙ ap (at_places (object_at m)) (places_are v s h)
-    ∙ at_places-same (object_at s.memory) (object_at m) v.places (λ p i. (object p i).object)
-    ∙ ap (at_places (object_at s.memory)) (sym (places_are v s h)) in
+    let content : at_places (counting_object_at m) (places_of t.free.space.held) ≡ at_places (counting_object_at s.memory) (places_of s.free.space.held) =
+    ap (λ rs. at_places (counting_object_at m) (places_of rs)) held
+    ∙ ap (at_places (counting_object_at m)) (places_are v s h)
+    ∙ at_places-same (counting_object_at s.memory) (counting_object_at m) v.places (λ p i. (object p i).object)
+    ∙ ap (at_places (counting_object_at s.memory)) (sym (places_are v s h)) in
     let new : t ≡ u = is ∙ ap (λ b. record s { memory = b; free = t.free }) grown_by in
     subst (λ y. Grows s y n) (sym new) (record {
       sound = record { view = v; holds = after; unmarked = sound.unmarked };

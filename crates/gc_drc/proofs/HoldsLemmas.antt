@@ -8,7 +8,7 @@ use Rattle.gc_memory.specs.Lists.{In, sum_over}
 use Rattle.gc_memory.proofs.WordLemmas.{word_apart, word64_apart}
 use Rattle.gc_free.specs.Space.{IsSound}
 use Rattle.gc_drc.specs.declared.space.CountedSpace.{CountedSpace}
-use Rattle.gc_drc.specs.Layout.{count_at, size_at, block_of}
+use Rattle.gc_drc.specs.Layout.{count_at, counting_size_at, block_of}
 use Rattle.gc_drc.specs.View.{View, ShowsObject, IsPart, Linked, block_at, count_of, flags_of}
 use Rattle.gc_drc.specs.CollectMemory.{Context, IsContext, Intact, At}
 use Rattle.gc_drc.proofs.RewriteLemmas.{Sets, same_written, same_apart, whole_same, apart_at, intact_written, linked_same}
@@ -85,7 +85,7 @@ shows_apart c v v' s m' x p at r i ne =
     let was = at.objects p i in
     let size_was = (at.intact.objects p (at.from p i)).size in
     let least = (at.start.lies p (at.from p i)).least in
-    let apart : (p + size_at s.memory p ≤ x) ⊎ (x + 28 ≤ p) = elim (apart_at c x p at.start (at.from x r.held) (at.from p i) ne) [ inl h ↦ inl (omega arith) | inr h ↦ inr h ] in
+    let apart : (p + counting_size_at s.memory p ≤ x) ⊎ (x + 28 ≤ p) = elim (apart_at c x p at.start (at.from x r.held) (at.from p i) ne) [ inl h ↦ inl (omega arith) | inr h ↦ inr h ] in
     let obj = same_apart r.sets p (omega arith) apart in
     let around = r.sets.around in
     let count_same : count_at m' p ≡ count_at s.memory p = elim apart [ inl h ↦ word64_apart around (p + 8) (inl (omega arith)) | inr h ↦ word64_apart around (p + 8) (inr (omega arith)) ] in

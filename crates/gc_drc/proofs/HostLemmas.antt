@@ -14,10 +14,10 @@ use Rattle.gc_memory.proofs.WordLemmas.{word_in_same}
 use Rattle.gc_view.proofs.ByteLemmas.{SameBytes-part}
 use Rattle.gc_heap.specs.Collection.{IsPartOf}
 use Rattle.gc_heap.specs.FreedHosts.{IsHostWord, FreesHost}
-use Rattle.gc_drc.specs.Layout.{kind_at}
+use Rattle.gc_drc.specs.Layout.{counting_kind_at}
 use Rattle.gc_drc.specs.CollectOps.{without_one, same}
 use Rattle.gc_drc.specs.CollectMemory.{Context, IsContext, Intact}
-use Rattle.gc_drc.specs.CollectHosts.{FreesHostOf, HostsLeft, host_word}
+use Rattle.gc_drc.specs.CollectHosts.{FreesHostOf, HostsLeft, counting_host_word}
 use Rattle.gc_drc.proofs.OccLemmas.{same-is, same-not, occ-without}
 use Rattle.gc_drc.proofs.RewriteLemmas.{kind_at_same}
 
@@ -46,11 +46,11 @@ module _ (D : Type 0) (c : Context) (places : List ℕ) (before old new : finite
   not_in : In x (without_one x places) → ⊥
   not_in i = let w = occ-without x x places held in let one : same x x ≡ 1 = same-is x x refl in let some = In-occ x (without_one x places) i in omega arith
 
-  pub hosts_freed : IsHostWord (host_word c.memory x) → In x c.graph.places → kind_at c.memory x ≡ ExternRef → FreesHost D old new (host_word c.memory x) → HostsLeft D c (without_one x places) before new
+  pub hosts_freed : IsHostWord (counting_host_word c.memory x) → In x c.graph.places → counting_kind_at c.memory x ≡ ExternRef → FreesHost D old new (counting_host_word c.memory x) → HostsLeft D c (without_one x places) before new
   hosts_freed is_host i external f = record {
     lost = λ p j external_p gone. elim (cases_eq p x) [
-      | inl e ↦ subst (λ (q : ℕ). finite.get new (host_word c.memory q - 1) ≡ None) (sym e) (f.lost is_host)
-      | inr ne ↦ none_stays old new (host_word c.memory p - 1) f.part (left.lost p j external_p (λ k. gone (still_in p ne k)))
+      | inl e ↦ subst (λ (q : ℕ). finite.get new (counting_host_word c.memory q - 1) ≡ None) (sym e) (f.lost is_host)
+      | inr ne ↦ none_stays old new (counting_host_word c.memory p - 1) f.part (left.lost p j external_p (λ k. gone (still_in p ne k)))
     ];
     kept = λ id all.
         f.others id (λ e. not_in (all x i external e))
@@ -58,11 +58,11 @@ module _ (D : Type 0) (c : Context) (places : List ℕ) (before old new : finite
     part = λ id value found. left.part id value (f.part id value found);
   }
 
-  pub hosts_same : (kind_at c.memory x ≡ ExternRef → ⊥) → new ≡ old → HostsLeft D c (without_one x places) before new
+  pub hosts_same : (counting_kind_at c.memory x ≡ ExternRef → ⊥) → new ≡ old → HostsLeft D c (without_one x places) before new
   hosts_same other is = record {
     lost = λ p j external_p gone. elim (cases_eq p x) [
-      | inl e ↦ absurd (other (sym (ap (kind_at c.memory) e) ∙ external_p))
-      | inr ne ↦ ap (λ m. finite.get m (host_word c.memory p - 1)) is ∙ left.lost p j external_p (λ k. gone (still_in p ne k))
+      | inl e ↦ absurd (other (sym (ap (counting_kind_at c.memory) e) ∙ external_p))
+      | inr ne ↦ ap (λ m. finite.get m (counting_host_word c.memory p - 1)) is ∙ left.lost p j external_p (λ k. gone (still_in p ne k))
     ];
     kept = λ id all. ap (λ m. finite.get m id) is ∙ left.kept id (λ p j external_p e. was_in p (all p j external_p e));
     part = λ id value found. left.part id value (sym (ap (λ m. finite.get m id) is) ∙ found);
@@ -81,8 +81,8 @@ pub hosts_after : (D : Type 0) (c : Context) (m : List ℕ) (places : List ℕ) 
     → IsContext c → Intact c m → HostsLeft D c places before old → FreesHostOf D m old new x → HostsLeft D c (without_one x places) before new
 hosts_after D c m places before old new x once held i start intact left f =
     let o = intact.objects x i in
-    let kind : kind_at m x ≡ kind_at c.memory x = kind_at_same c.memory m x o.kind in
-    elim (external_or_not (kind_at c.memory x)) [
+    let kind : counting_kind_at m x ≡ counting_kind_at c.memory x = kind_at_same c.memory m x o.kind in
+    elim (external_or_not (counting_kind_at c.memory x)) [
       | inr other ↦ hosts_same D c places before old new x once held left other (f.other (λ e. other (sym kind ∙ e)))
       | inl is ↦ (
           let ext = start.externals x i is in

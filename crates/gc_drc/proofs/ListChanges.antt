@@ -8,7 +8,7 @@ use Rattle.gc_memory.specs.Lists.{In, occ}
 use Rattle.gc_memory.proofs.ListLemmas.{In-occ, occ-In, occ-same}
 use Rattle.gc_drc.specs.declared.space.CountedSpace.{CountedSpace}
 use Rattle.gc_drc.specs.View.{View, Linked, count_of}
-use Rattle.gc_drc.specs.CollectOps.{same, without_one, unqueued, hidden}
+use Rattle.gc_drc.specs.CollectOps.{same, without_one, unqueued, unshown}
 use Rattle.gc_drc.specs.CollectLists.{onto, front}
 use Rattle.gc_drc.specs.CollectMemory.{Context, At, CanLeave, CanHide, Relinks}
 use Rattle.gc_drc.proofs.OccLemmas.{same-is, same-not, occ-without}
@@ -163,8 +163,8 @@ relinked_loose c v s s1 before next at i small is =
 
 -- the flag of an object was cleared that leaves the list
 record Unflags (c : Context) (v : View) (s1 s2 : CountedSpace) (x : ℕ) : Type 0 where
-  pub rewritten : Rewritten v (hidden v x) s1 s2.memory x
-  pub loosely : Loose c (hidden v x) s2
+  pub rewritten : Rewritten v (unshown v x) s1 s2.memory x
+  pub loosely : Loose c (unshown v x) s2
   pub shown_word : word s2.memory (x + 16) ≡ word s1.memory (x + 16)
   pub link_word : word s2.memory (x + 24) ≡ word s1.memory (x + 24)
 
@@ -184,7 +184,7 @@ unflags c v s1 s2 x k l i on_list read small is =
     let m2 : s2.memory ≡ put_u32 s1.memory x (k - 2) = ap (λ (t : CountedSpace). t.memory) is in
     let now : Sets s1.memory s2.memory x ((k - 2) % 8) (word64 s1.memory (x + 8)) (word s1.memory (x + 16)) (word s1.memory (x + 24)) =
     subst (λ (m : List ℕ). Sets s1.memory m x ((k - 2) % 8) (word64 s1.memory (x + 8)) (word s1.memory (x + 16)) (word s1.memory (x + 24))) (sym m2) sets in
-    let r : Rewritten v (hidden v x) s1 s2.memory x = record {
+    let r : Rewritten v (unshown v x) s1 s2.memory x = record {
       held = i;
       sets = sets_as now _ _ _ _ (omega arith) (omega arith) (sym now.shown_is) (sym now.link_is);
       positive = omega arith;
@@ -205,7 +205,7 @@ on_list_at v x kept left is = ap (λ (xs : List ℕ). occ x xs) is ∙ occ-onto 
 
 -- it is the first of the list
 hidden_first : (c : Context) (v : View) (s s1 s2 : CountedSpace) (x next k : ℕ) (left : List ℕ) → next ≡ word s.memory (x + 16) → s1 ≡ record s { shown = next } → k ≡ word s1.memory x
-    → k < 2 ^ 32 → s2 ≡ record s1 { memory = put_u32 s1.memory x (k - 2) } → At c v s → v.shown ≡ x ∷ left → At c (hidden v x) s2
+    → k < 2 ^ 32 → s2 ≡ record s1 { memory = put_u32 s1.memory x (k - 2) } → At c v s → v.shown ≡ x ∷ left → At c (unshown v x) s2
 hidden_first c v s s1 s2 x next k left read is1 read_k small is2 at is =
     let h = at.holds in
     let times = on_list_at v x [] left is in
@@ -241,18 +241,18 @@ hidden_first c v s s1 s2 x next k left read is1 read_k small is2 at is =
     subst (λ (m : List ℕ). Linked m 16 next (without_one x v.shown)) (sym m1)
     (subst (λ (xs : List ℕ). Linked s.memory 16 next xs) (sym without_is) (subst (λ (n : ℕ). Linked s.memory 16 n left) (sym read) behind)) in
     let queue1 : Linked s1.memory 24 s.queued v.queue = subst (λ (m : List ℕ). Linked m 24 s.queued v.queue) (sym m1) h.queue_linked in
-    linked_at c (hidden v x) s2 u.loosely
+    linked_at c (unshown v x) s2 u.loosely
     (subst (λ (n : ℕ). Linked s2.memory 16 n (without_one x v.shown)) (sym head)
     (linked_same s1.memory s2.memory 16 next (without_one x v.shown)
-    (loose_link_kept c v (hidden v x) s1 s2.memory x 16 l u.rewritten (omega arith) (without_one x v.shown) part.inside (λ _. u.shown_word)) behind1))
+    (loose_link_kept c v (unshown v x) s1 s2.memory x 16 l u.rewritten (omega arith) (without_one x v.shown) part.inside (λ _. u.shown_word)) behind1))
     (subst (λ (n : ℕ). Linked s2.memory 24 n v.queue) (sym queued)
     (linked_same s1.memory s2.memory 24 s.queued v.queue
-    (loose_link_kept c v (hidden v x) s1 s2.memory x 24 l u.rewritten (omega arith) v.queue h.queue_part.inside (λ _. u.link_word)) queue1))
+    (loose_link_kept c v (unshown v x) s1 s2.memory x 24 l u.rewritten (omega arith) v.queue h.queue_part.inside (λ _. u.link_word)) queue1))
 
 -- another one stands before it
 hidden_behind : (c : Context) (v : View) (s s1 s2 : CountedSpace) (x j next k : ℕ) (js left : List ℕ) → next ≡ word s.memory (x + 16) → next < 2 ^ 32
     → s1 ≡ record s { memory = put_u32 s.memory (j + 16) next } → k ≡ word s1.memory x
-    → k < 2 ^ 32 → s2 ≡ record s1 { memory = put_u32 s1.memory x (k - 2) } → At c v s → v.shown ≡ onto (j ∷ js) (x ∷ left) → At c (hidden v x) s2
+    → k < 2 ^ 32 → s2 ≡ record s1 { memory = put_u32 s1.memory x (k - 2) } → At c v s → v.shown ≡ onto (j ∷ js) (x ∷ left) → At c (unshown v x) s2
 hidden_behind c v s s1 s2 x j next k js left read fits is1 read_k small is2 at is =
     let h = at.holds in
     let times : occ x v.shown ≡ occ x (j ∷ js) + (1 + occ x left) = on_list_at v x (j ∷ js) left is in
@@ -298,17 +298,17 @@ hidden_behind c v s s1 s2 x j next k js left read fits is1 read_k small is2 at i
     (loose_link_kept c v same_view s s1.memory j 24 (loose c v s at) r1 (omega arith) v.queue h.queue_part.inside (λ _. link_j)) h.queue_linked in
     let head : s2.shown ≡ s.shown = ap (λ (t : CountedSpace). t.shown) is2 ∙ ap (λ (t : CountedSpace). t.shown) is1 in
     let queued : s2.queued ≡ s.queued = ap (λ (t : CountedSpace). t.queued) is2 ∙ ap (λ (t : CountedSpace). t.queued) is1 in
-    linked_at c (hidden v x) s2 u.loosely
+    linked_at c (unshown v x) s2 u.loosely
     (subst (λ (n : ℕ). Linked s2.memory 16 n (without_one x v.shown)) (sym head)
     (linked_same s1.memory s2.memory 16 s.shown (without_one x v.shown)
-    (loose_link_kept c v (hidden v x) s1 s2.memory x 16 l u.rewritten (omega arith) (without_one x v.shown) part.inside (λ _. u.shown_word)) shown1))
+    (loose_link_kept c v (unshown v x) s1 s2.memory x 16 l u.rewritten (omega arith) (without_one x v.shown) part.inside (λ _. u.shown_word)) shown1))
     (subst (λ (n : ℕ). Linked s2.memory 24 n v.queue) (sym queued)
     (linked_same s1.memory s2.memory 24 s.queued v.queue
-    (loose_link_kept c v (hidden v x) s1 s2.memory x 24 l u.rewritten (omega arith) v.queue h.queue_part.inside (λ _. u.link_word)) queue1))
+    (loose_link_kept c v (unshown v x) s1 s2.memory x 24 l u.rewritten (omega arith) v.queue h.queue_part.inside (λ _. u.link_word)) queue1))
 
 pub hidden_at : (c : Context) (v : View) (s s1 s2 : CountedSpace) (x before next k : ℕ) (kept left : List ℕ) → next ≡ word s.memory (x + 16) → next < 2 ^ 32 → Relinks s s1 before next
     → k ≡ word s1.memory x → k < 2 ^ 32 → s2 ≡ record s1 { memory = put_u32 s1.memory x (k - 2) } → At c v s → v.shown ≡ onto kept (x ∷ left) → front kept ≡ before
-    → At c (hidden v x) s2
+    → At c (unshown v x) s2
 hidden_at c v s s1 s2 x before next k [] left read fits r read_k small is2 at is e =
     hidden_first c v s s1 s2 x next k left read (r.head (sym e)) read_k small is2 at is
 hidden_at c v s s1 s2 x before next k (j ∷ js) left read fits r read_k small is2 at is e =

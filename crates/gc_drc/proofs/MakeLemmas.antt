@@ -24,14 +24,14 @@ use Rattle.gc_heap.specs.Objects.{held_size}
 use Rattle.gc_heap.specs.Heap.{AddsObject, HasRoom, IsFree, EndsAt, IsTooLarge}
 use Rattle.gc_view.specs.Pages.{page}
 use Rattle.gc_drc.specs.declared.space.CountedSpace.{CountedSpace}
-use Rattle.gc_drc.specs.Layout.{count_at, flags_at, block_of, object_at}
-use Rattle.gc_drc.specs.View.{View, block_at, Holds, ShowsObject, IsPart, Linked}
-use Rattle.gc_drc.specs.Content.{at_places, places_of, counts_at, seen_in, IsSoundSpace}
+use Rattle.gc_drc.specs.Layout.{count_at, flags_at, block_of, counting_object_at}
+use Rattle.gc_drc.specs.View.{View, block_at, HoldsBlocks, ShowsObject, IsPart, Linked}
+use Rattle.gc_drc.specs.Content.{at_places, places_of, counts_at, counting_seen_in, IsSoundSpace}
 use Rattle.gc_drc.specs.PlaceLaws.{found_in, get_in, get_none, spread-lies, spread-apart, spread-total}
 use Rattle.gc_drc.proofs.PlaceLemmas.{spread-length}
 use Rattle.gc_drc.specs.SpaceLaws.{lies, aligned_at, blocks_apart, places_are, held_size-in}
 use Rattle.gc_drc.proofs.CountsSeen.{counts_are}
-use Rattle.gc_drc.specs.Placing.{placed_space, TakesBlock, KeepsBlocks, IsFull, CanPlace}
+use Rattle.gc_drc.specs.Placing.{placed_space, TakesBlock, KeepsBlocks, LacksFreeRun, CanPlaceAt}
 use Rattle.gc_drc.proofs.NewObjects.{insert_place, with_place, PutsObject}
 use Rattle.gc_drc.proofs.TendLemmas.{SameObject, object_in_same, linked_in_same}
 use Rattle.gc_drc.proofs.SeenLemmas.{same_view}
@@ -57,7 +57,7 @@ pub record NewPlace (v : View) (s u : CountedSpace) (p size : ℕ) : Type 0 wher
 block_positive : (size : ℕ) → 0 < size → 0 < block_of size
 block_positive size l = omega arith
 
-pub new_place : (v : View) (s u : CountedSpace) (p size : ℕ) → Holds v s → TakesBlock s u p size → 0 < size → NewPlace v s u p size
+pub new_place : (v : View) (s u : CountedSpace) (p size : ℕ) → HoldsBlocks v s → TakesBlock s u p size → 0 < size → NewPlace v s u p size
 new_place v s u p size h taken least =
     let high : ℕ = places_end s.free.space.capacity in
     let held : u.free.space.held ≡ insert_run (run p (block_of size)) (map (block_at v.sizes) v.places) = taken.held ∙ ap (insert_run (run p (block_of size))) h.blocks in
@@ -102,7 +102,7 @@ old_bytes v s u m p size q new w i = Wrote-apart w q (q + v.sizes q) (sides (new
     sides (inl e) = inl (omega arith)
     sides (inr e) = inr (omega arith)
 
-old_object : (v : View) (s u : CountedSpace) (m : List ℕ) (p size q : ℕ) → Holds v s → NewPlace v s u p size → Wrote s.memory m p size → In q v.places → SameObject s.memory m q
+old_object : (v : View) (s u : CountedSpace) (m : List ℕ) (p size q : ℕ) → HoldsBlocks v s → NewPlace v s u p size → Wrote s.memory m p size → In q v.places → SameObject s.memory m q
 old_object v s u m p size q h new w i =
     let o = h.objects q i in
     let l = lies v s q h i in
@@ -110,7 +110,7 @@ old_object v s u m p size q h new w i =
     let is = o.size_is in
     object_in_same s.memory m q o.whole (omega arith) (subst (λ n. SameBytes s.memory m q (q + n)) (sym o.size_is) (old_bytes v s u m p size q new w i))
 
-old_links : (v : View) (s u : CountedSpace) (m : List ℕ) (p size offset head : ℕ) (list : List ℕ) → Holds v s → NewPlace v s u p size → Wrote s.memory m p size → offset ≤ 24
+old_links : (v : View) (s u : CountedSpace) (m : List ℕ) (p size offset head : ℕ) (list : List ℕ) → HoldsBlocks v s → NewPlace v s u p size → Wrote s.memory m p size → offset ≤ 24
     → IsPart v.places list → Linked s.memory offset head list → Linked m offset head list
 old_links v s u m p size offset head list h new w small part linked = linked_in_same s.memory m offset head list linked (λ q i.
     let j = part.inside q i in
@@ -121,8 +121,8 @@ wider : (places list : List ℕ) (p : ℕ) → IsPart places list → IsPart (in
 wider places list p part = record { inside = λ q i. insert-old p q places (part.inside q i); once = part.once }
 
 -- the new object is one of the view's
-pub placed_holds : (v : View) (s u : CountedSpace) (m : List ℕ) (p size : ℕ) (object : HeapObject) → Holds v s → TakesBlock s u p size → 0 < size → PutsObject s.memory m p object size
-    → Holds (with_place v p size) (placed_space s u m size)
+pub placed_holds : (v : View) (s u : CountedSpace) (m : List ℕ) (p size : ℕ) (object : HeapObject) → HoldsBlocks v s → TakesBlock s u p size → 0 < size → PutsObject s.memory m p object size
+    → HoldsBlocks (with_place v p size) (placed_space s u m size)
 placed_holds v s u m p size object h taken least puts =
     let new = new_place v s u p size h taken least in
     let len : length m ≡ length s.memory = puts.around.same_length in
@@ -194,33 +194,33 @@ placed_holds v s u m p size object h taken least puts =
         let were = h.allocated in omega arith
 
 -- nothing lies at a place that was taken
-free_at : (v : View) (s u : CountedSpace) (p size scopes : ℕ) → Holds v s → NewPlace v s u p size → IsFree (seen_in scopes s) p (round_up size alignment)
+free_at : (v : View) (s u : CountedSpace) (p size scopes : ℕ) → HoldsBlocks v s → NewPlace v s u p size → IsFree (counting_seen_in scopes s) p (round_up size alignment)
 free_at v s u p size scopes h new =
     record {
       aligned = new.aligned;
       not_null = let from = new.not_null in omega arith;
       inside = new.inside;
       free = λ q o e.
-          let f = found_in (object_at s.memory) q o (places_of s.free.space.held) e in
+          let f = found_in (counting_object_at s.memory) q o (places_of s.free.space.held) e in
           let i = subst (In q) (places_are v s h) f.0 in
           let size_is : block_size Counting o ≡ block_of (v.sizes q) = ap block_of (ap (held_size Counting) f.1 ∙ held_size-in v s q h i) in
           subst (λ n. (q + n ≤ p) ⊎ (p + block_of size ≤ q)) (sym size_is) (new.apart q i);
     }
 
 -- it is 16, or an object ends there
-lies_for : (v : View) (s : CountedSpace) (p scopes : ℕ) → Holds v s → Begins v.sizes 16 v.places p → (p ≡ 16) ⊎ EndsAt (seen_in scopes s) p
+lies_for : (v : View) (s : CountedSpace) (p scopes : ℕ) → HoldsBlocks v s → Begins v.sizes 16 v.places p → (p ≡ 16) ⊎ EndsAt (counting_seen_in scopes s) p
 lies_for v s p scopes h (inl e) = inl e
 lies_for v s p scopes h (inr b) = inr (record {
   before = b.0;
-  object = object_at s.memory b.0;
-  held = get_in (object_at s.memory) b.0 (places_of s.free.space.held) (subst (In b.0) (sym (places_are v s h)) b.1.0);
+  object = counting_object_at s.memory b.0;
+  held = get_in (counting_object_at s.memory) b.0 (places_of s.free.space.held) (subst (In b.0) (sym (places_are v s h)) b.1.0);
   ends = ap (λ n. b.0 + block_of n) (held_size-in v s b.0 h b.1.0) ∙ b.1.1;
 })
 
 -- What an allocation does to a space.
 pub record Makes (s t : CountedSpace) (p size : ℕ) (object : HeapObject) : Type 0 where
   pub sound : IsSoundSpace t
-  pub adds_object : (scopes : ℕ) → AddsObject Counting (seen_in scopes s) (seen_in scopes t) p object size
+  pub adds_object : (scopes : ℕ) → AddsObject Counting (counting_seen_in scopes s) (counting_seen_in scopes t) p object size
 
 same_counts : (c d : Counts) → c.counted ≡ d.counted → c.shown ≡ d.shown → c.queued ≡ d.queued → c ≡ d
 same_counts c d counted shown queued = λ i. record { counted = counted i; shown = shown i; queued = queued i }
@@ -234,16 +234,16 @@ makes s u t m p size object sound small taken least puts is =
     let w = with_place v p size in
     let after = placed_holds v s u m p size object h taken least puts in
     let x = placed_space s u m size in
-    let content : at_places (object_at m) (places_of u.free.space.held) ≡ finite.insert (at_places (object_at s.memory) (places_of s.free.space.held)) p object =
-    ap (λ ps. at_places (object_at m) ps) (places_are w x after)
-    ∙ at_places-added (object_at s.memory) (object_at m) p object v.places puts.object_is (λ q i. (old_object v s u m p size q h new puts.around i).object)
-    ∙ ap (λ ps. finite.insert (at_places (object_at s.memory) ps) p object) (sym (places_are v s h)) in
+    let content : at_places (counting_object_at m) (places_of u.free.space.held) ≡ finite.insert (at_places (counting_object_at s.memory) (places_of s.free.space.held)) p object =
+    ap (λ ps. at_places (counting_object_at m) ps) (places_are w x after)
+    ∙ at_places-added (counting_object_at s.memory) (counting_object_at m) p object v.places puts.object_is (λ q i. (old_object v s u m p size q h new puts.around i).object)
+    ∙ ap (λ ps. finite.insert (at_places (counting_object_at s.memory) ps) p object) (sym (places_are v s h)) in
     let counts : counts_at m (places_of u.free.space.held) ≡ record (counts_at s.memory (places_of s.free.space.held)) { counted = finite.insert (counts_at s.memory (places_of s.free.space.held)).counted p 1 } =
     counts_are w x after
     ∙ same_counts _ _ (at_places-added v.counted (λ y. cond (nat_eq y p) 1 (v.counted y)) p 1 v.places (ap (λ b. cond b 1 (v.counted p)) (eq-eqb p p refl))
     (λ q i. ap (λ b. cond b 1 (v.counted q)) (ne_eqb q p (λ e. new.none (subst (λ k. In k v.places) e i))))) refl refl
     ∙ ap (λ (c : Counts). record c { counted = finite.insert c.counted p 1 }) (sym (counts_are v s h)) in
-    let fresh : finite.get (at_places (object_at s.memory) (places_of s.free.space.held)) p ≡ None = get_none (object_at s.memory) p (places_of s.free.space.held) (λ i. new.none (subst (In p) (places_are v s h) i)) in
+    let fresh : finite.get (at_places (counting_object_at s.memory) (places_of s.free.space.held)) p ≡ None = get_none (counting_object_at s.memory) p (places_of s.free.space.held) (λ i. new.none (subst (In p) (places_are v s h) i)) in
     subst (λ y. Makes s y p size object) (sym is) (record {
       sound = record { view = w; holds = after; unmarked = sound.unmarked };
       adds_object = λ scopes. record {
@@ -292,7 +292,7 @@ gap_at sizes place n from end (p ∷ ps) some low high free all = elim (free p h
 ]
 
 -- where no free run is long enough there is no room
-pub no_room : (s : CountedSpace) (size scopes : ℕ) → IsSoundSpace s → 0 < size → IsFull s size → HasRoom Counting (seen_in scopes s) size → ⊥
+pub no_room : (s : CountedSpace) (size scopes : ℕ) → IsSoundSpace s → 0 < size → LacksFreeRun s size → HasRoom Counting (counting_seen_in scopes s) size → ⊥
 no_room s size scopes sound positive full room =
     let v = sound.view in
     let h = sound.holds in
@@ -304,17 +304,17 @@ no_room s size scopes sound positive full room =
     let bound = h.bound in
     gap_at v.sizes room.0 (block_of size) 16 (places_end s.free.space.capacity) v.places (block_positive size positive) (omega arith) (omega arith)
     (λ q i. subst (λ n. (q + n ≤ room.0) ⊎ (room.0 + block_of size ≤ q)) (ap block_of (held_size-in v s q h i))
-    (f.free q (object_at s.memory q) (held q (subst (In q) (sym (places_are v s h)) i))))
+    (f.free q (counting_object_at s.memory q) (held q (subst (In q) (sym (places_are v s h)) i))))
     (all_short (block_of size) _ (subst (λ bs. All (λ r. r.length < block_of size) (gaps 16 (places_end s.free.space.capacity) bs)) h.blocks full))
   where
-    held : (q : ℕ) → In q (places_of s.free.space.held) → finite.get (at_places (object_at s.memory) (places_of s.free.space.held)) q ≡ Some (object_at s.memory q)
-    held q i = get_in (object_at s.memory) q (places_of s.free.space.held) i
+    held : (q : ℕ) → In q (places_of s.free.space.held) → finite.get (at_places (counting_object_at s.memory) (places_of s.free.space.held)) q ≡ Some (counting_object_at s.memory q)
+    held q i = get_in (counting_object_at s.memory) q (places_of s.free.space.held) i
 
 -- an allocation that found no room changed nothing that is seen
-pub kept_seen : (s u : CountedSpace) (scopes : ℕ) → KeepsBlocks s u → seen_in scopes u ≡ seen_in scopes s
+pub kept_seen : (s u : CountedSpace) (scopes : ℕ) → KeepsBlocks s u → counting_seen_in scopes u ≡ counting_seen_in scopes s
 kept_seen s u scopes kept =
-    ap (seen_in scopes) kept.rest
-    ∙ ap (λ held. record (seen_in scopes s) { content = at_places (object_at s.memory) (places_of held); counts = counts_at s.memory (places_of held) }) kept.held
+    ap (counting_seen_in scopes) kept.rest
+    ∙ ap (λ held. record (counting_seen_in scopes s) { content = at_places (counting_object_at s.memory) (places_of held); counts = counts_at s.memory (places_of held) }) kept.held
 
 pub kept_sound : (s u : CountedSpace) → IsSoundSpace s → KeepsBlocks s u → IsSoundSpace u
 kept_sound s u sound kept =
@@ -340,7 +340,7 @@ kept_sound s u sound kept =
     })
 
 -- what was taken can be written
-pub can_place : (s u : CountedSpace) (p size : ℕ) → IsSoundSpace s → TakesBlock s u p size → 28 ≤ size → CanPlace u p size
+pub can_place : (s u : CountedSpace) (p size : ℕ) → IsSoundSpace s → TakesBlock s u p size → 28 ≤ size → CanPlaceAt u p size
 can_place s u p size sound taken least =
     let v = sound.view in
     let h = sound.holds in
@@ -354,4 +354,4 @@ can_place s u p size sound taken least =
     let total = spread-total v.sizes 16 (places_end s.free.space.capacity) v.places up in
     let many = spread-length v.sizes 16 (places_end s.free.space.capacity) v.places up in
     let allocated = h.allocated in
-    subst (λ x. CanPlace x p size) (sym taken.rest) (record { not_null = omega arith; least = least; room = omega arith; count = omega arith; bytes = omega arith })
+    subst (λ x. CanPlaceAt x p size) (sym taken.rest) (record { not_null = omega arith; least = least; room = omega arith; count = omega arith; bytes = omega arith })

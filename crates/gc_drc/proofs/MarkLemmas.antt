@@ -9,7 +9,7 @@ use Rattle.gc_memory.proofs.ChangeLemmas.{Wrote-put_u32, Wrote-put_u64}
 use Rattle.gc_memory.proofs.WordLemmas.{word_apart}
 use Rattle.gc_drc.specs.declared.space.CountedSpace.{CountedSpace}
 use Rattle.gc_drc.specs.View.{View, IsPart, Linked, link, count_of}
-use Rattle.gc_drc.specs.CollectOps.{same, without_one, marked_also, unmarked, uncounted, lowered}
+use Rattle.gc_drc.specs.CollectOps.{same, without_one, marked_also, unmarked, uncounted, uncounted_or_queued}
 use Rattle.gc_drc.specs.CollectMemory.{Context, At, CanUnmark}
 use Rattle.gc_drc.proofs.OccLemmas.{same-is, same-not, occ-without}
 use Rattle.gc_drc.proofs.RewriteLemmas.{sets_kind, sets_count, sets_link, sets_then, sets_as, linked_same, apart_at}
@@ -155,7 +155,7 @@ more_names c v s x n at i read more = let counts = count_in c v s x at i in omeg
 
 -- another name of an object is lowered
 pub lower_at_more : (c : Context) (v : View) (s s' : CountedSpace) (x n : ℕ) → n ≡ word64 s.memory (x + 8) → n < 2 ^ 64 → (n ≡ 1 → ⊥) → s' ≡ record s { memory = put_u64 s.memory (x + 8) (n - 1) }
-    → At c v s → In x v.places → 0 < v.counted x → At c (lowered v x) s'
+    → At c v s → In x v.places → 0 < v.counted x → At c (uncounted_or_queued v x) s'
 lower_at_more c v s s' x n read small isnt is at i named =
     let counts = count_in c v s x at i in
     let more : 1 < n = elim (cases_eq n 1) [ inl e ↦ elim (isnt e) [ ] | inr ne ↦ omega arith ] in
@@ -189,7 +189,7 @@ queue_rewrites c v s x k at i named alone read small fits =
 
 pub lower_at_last : (c : Context) (v : View) (s s' : CountedSpace) (x n k : ℕ) → n ≡ word64 s.memory (x + 8) → n ≡ 1 → k ≡ word s.memory x → k < 2 ^ 32 → s.queued < 2 ^ 32
     → s'.memory ≡ put_u32 (put_u32 s.memory x (k + 4)) (x + 24) s.queued → s'.free ≡ s.free → s'.shown ≡ s.shown → s'.queued ≡ x → s'.objects ≡ s.objects → s'.allocated ≡ s.allocated
-    → At c v s → In x v.places → 0 < v.counted x → At c (lowered v x) s'
+    → At c v s → In x v.places → 0 < v.counted x → At c (uncounted_or_queued v x) s'
 lower_at_last c v s s' x n k read one_n read_k small fits memory free shown queued objects allocated at i named =
     let counts = count_in c v s x at i in
     let alone : count_of v x ≡ 1 = omega arith in
@@ -225,7 +225,7 @@ lower_at_last c v s s' x n k read one_n read_k small fits memory free shown queu
 -- the same by the two writes
 pub lower_at_writes : (c : Context) (v : View) (s s1 s2 : CountedSpace) (x n k : ℕ) → n ≡ word64 s.memory (x + 8) → n ≡ 1 → k ≡ word s.memory x → k < 2 ^ 32 → s.queued < 2 ^ 32
     → s1 ≡ record s { memory = put_u32 s.memory x (k + 4) } → s2 ≡ record s1 { memory = put_u32 s1.memory (x + 24) s1.queued }
-    → At c v s → In x v.places → 0 < v.counted x → At c (lowered v x) (record s2 { queued = x })
+    → At c v s → In x v.places → 0 < v.counted x → At c (uncounted_or_queued v x) (record s2 { queued = x })
 lower_at_writes c v s s1 s2 x n k read one read_k small fits e1 e2 at i named =
     let linked_on : CountedSpace → CountedSpace = λ t. record t { memory = put_u32 t.memory (x + 24) t.queued } in
     let both : s2 ≡ record s { memory = put_u32 (put_u32 s.memory x (k + 4)) (x + 24) s.queued } =

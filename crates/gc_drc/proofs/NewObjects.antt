@@ -3,7 +3,7 @@ use Rattle.std.proofs.Common.{◌≡◌, ℕ, cond, nat_lt, List, [], ◌∷◌}
 use Rattle.std.specs.Prelude.{nat_eq}
 use Rattle.gc_memory.specs.Changes.{Wrote}
 use Rattle.gc_view.specs.Heaps.{HeapObject}
-use Rattle.gc_drc.specs.Layout.{count_at, size_at, flags_at, object_at, IsWhole}
+use Rattle.gc_drc.specs.Layout.{count_at, counting_size_at, flags_at, counting_object_at, IsCountingWhole}
 use Rattle.gc_drc.specs.View.{View}
 
 -- a place put among others by rising place
@@ -22,8 +22,8 @@ with_place v p size = record v {
 -- a whole object that one word names was written at a place, and nothing else
 pub record PutsObject (before after : List ℕ) (place : ℕ) (object : HeapObject) (size : ℕ) : Type 0 where
   pub around : Wrote before after place size
-  pub size_is : size_at after place ≡ size
+  pub size_is : counting_size_at after place ≡ size
   pub count_is : count_at after place ≡ 1
   pub flags_are : flags_at after place ≡ 0
-  pub whole : IsWhole after place
-  pub object_is : object_at after place ≡ object
+  pub whole : IsCountingWhole after place
+  pub object_is : counting_object_at after place ≡ object

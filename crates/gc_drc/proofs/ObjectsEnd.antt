@@ -9,12 +9,12 @@ use Rattle.gc_heap.specs.References.{word_in}
 use Rattle.gc_heap.specs.Collection.{Start, IsMoved, Collected}
 use Rattle.gc_heap.specs.Collection as content
 use Rattle.gc_drc.specs.declared.space.CountedSpace.{CountedSpace}
-use Rattle.gc_drc.specs.Layout.{object_at}
+use Rattle.gc_drc.specs.Layout.{counting_object_at}
 use Rattle.gc_drc.specs.View.{View}
-use Rattle.gc_drc.specs.Content.{seen_in, IsSoundSpace}
+use Rattle.gc_drc.specs.Content.{counting_seen_in, IsSoundSpace}
 use Rattle.gc_drc.specs.Graph as graph
 use Rattle.gc_drc.specs.CollectSpan.{Ends}
-use Rattle.gc_drc.specs.Objects.{BeginsIn}
+use Rattle.gc_drc.specs.Objects.{CountingBeginsIn}
 use Rattle.gc_drc.proofs.ObjectsRoots.{stays, roots_stay}
 use Rattle.gc_drc.proofs.ObjectsBegin.{start, found, reached_in, reached_so, reached_back}
 use Rattle.gc_drc.proofs.ObjectsLeft.{Leaves, same_object, held_after, place_after, still_held, counts_anew, capacity_after, host_so, external_so, id_is}
@@ -31,12 +31,12 @@ is_unmoved s o o' e = subst (IsMoved Counting s.types (λ (p : ℕ). p) o) (sym 
   rest = λ at d none. refl;
 })
 
-module _ (s : Start) (v w : View) (space after : CountedSpace) (scopes : ℕ) (now : ℕ → Bool) (b : BeginsIn s v space scopes)
+module _ (s : Start) (v w : View) (space after : CountedSpace) (scopes : ℕ) (now : ℕ → Bool) (b : CountingBeginsIn s v space scopes)
     (e : Ends (start s v space scopes b) w after s.hosts now) where
-  from : (p : ℕ) → In p w.places → graph.Reached (start s v space scopes b).graph p
+  from : (p : ℕ) → In p w.places → graph.CountingReached (start s v space scopes b).graph p
   from p i = e.done.held p (In-occ p w.places i)
 
-  kept_place : (p : ℕ) → content.Reached Counting s p → In p w.places
+  kept_place : (p : ℕ) → content.ReachedPlace Counting s p → In p w.places
   kept_place p r = occ-In p w.places (e.done.kept p (reached_so s v space scopes b p r))
 
   leaves : Leaves (start s v space scopes b) w after
@@ -57,14 +57,14 @@ module _ (s : Start) (v w : View) (space after : CountedSpace) (scopes : ℕ) (n
   sound_after = left.sound_after s v w space after scopes b leaves
 
   -- The collection is complete.
-  pub collected_so : Collected Counting s (seen_in scopes after) s.roots now
+  pub collected_so : Collected Counting s (counting_seen_in scopes after) s.roots now
   collected_so = record {
     to = λ (p : ℕ). p;
     injective = λ p q kp kq same. same;
     kept = λ p o kp got.
         let i = kept_place p kp in
         let f = found s v space scopes b p o got in
-        (object_at after.memory p, (held_after s v w space after scopes b leaves p i, is_unmoved s o (object_at after.memory p) (same_object s v w space after scopes b leaves p i ∙ sym f.1)));
+        (counting_object_at after.memory p, (held_after s v w space after scopes b leaves p i, is_unmoved s o (counting_object_at after.memory p) (same_object s v w space after scopes b leaves p i ∙ sym f.1)));
     only = λ p h.
         let i = place_after s v w space after scopes b leaves p h.0 h.1 in
         (p, (reached_back s v space scopes b p (from p i), refl));
@@ -75,8 +75,8 @@ module _ (s : Start) (v w : View) (space after : CountedSpace) (scopes : ℕ) (n
     hosts_kept = λ id all.
         e.hosts.kept id (λ p i is number.
         let x = external_so s v space scopes b p i is in
-        let h = host_so s v space scopes b p (object_at space.memory p) x in
-        kept_place p (all p (object_at space.memory p) x (id_is id (u32_at (object_at space.memory p).bytes 0) (h.1 ∙ number))));
+        let h = host_so s v space scopes b p (counting_object_at space.memory p) x in
+        kept_place p (all p (counting_object_at space.memory p) x (id_is id (u32_at (counting_object_at space.memory p).bytes 0) (h.1 ∙ number))));
     attached = refl;
     capacity = capacity_after s v w space after scopes b leaves;
     scopes = ap (λ (h : HeapView). h.scopes) b.heap_is ∙ b.can.open_scopes;

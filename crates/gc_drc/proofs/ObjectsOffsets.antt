@@ -22,7 +22,7 @@ use Rattle.gc_memory.specs.Lists.{In}
 use Rattle.gc_view.specs.Heaps.{HeapObject}
 use Rattle.gc_heap.specs.Objects.{held_size, array_length, IsObjectKind}
 use Rattle.gc_heap.specs.References.{word_offsets, info_offsets, typed_offsets, HoldsType}
-use Rattle.gc_drc.specs.CollectMemory.{traced_offsets, info_of}
+use Rattle.gc_drc.specs.CollectMemory.{offsets_by_info, info_of}
 use Rattle.gc_drc.proofs.ObjectsRoots.{in_first}
 use Rattle.gc_memory.proofs.ListLemmas.{in_contains}
 
@@ -135,7 +135,7 @@ typed_is types o StructRef = refl
 typed_is types o ArrayRef = refl
 typed_is types o ExnRef = refl
 
-info_same : (o : HeapObject) (count : ℕ) (info : Option TraceInfo) → array_length o ≡ count → info_offsets Counting o info ≡ traced_offsets info count
+info_same : (o : HeapObject) (count : ℕ) (info : Option TraceInfo) → array_length o ≡ count → info_offsets Counting o info ≡ offsets_by_info info count
 info_same o count None e = refl
 info_same o count (Some (trace.Struct offsets)) e = refl
 info_same o count (Some (trace.Array true)) e = ap (word_offsets 32) e
@@ -143,9 +143,9 @@ info_same o count (Some (trace.Array false)) e = refl
 
 -- the number behind the header counts only in an array
 pub offsets_by : (o : HeapObject) (k : VMGcKind) (info : Option TraceInfo) (size count : ℕ) → Traced k info size (array_length o) → (k ≡ ArrayRef → array_length o ≡ count)
-    → info_offsets Counting o (info_of k info) ≡ traced_offsets (info_of k info) count
-offsets_by o k info size count (external is) array = subst (λ (j : VMGcKind). info_offsets Counting o (info_of j info) ≡ traced_offsets (info_of j info) count) (sym is) refl
-offsets_by o k info size count (by_fields offsets e inside same) array = ap (info_offsets Counting o) (same ∙ e) ∙ sym (ap (λ i. traced_offsets i count) (same ∙ e))
+    → info_offsets Counting o (info_of k info) ≡ offsets_by_info (info_of k info) count
+offsets_by o k info size count (external is) array = subst (λ (j : VMGcKind). info_offsets Counting o (info_of j info) ≡ offsets_by_info (info_of j info) count) (sym is) refl
+offsets_by o k info size count (by_fields offsets e inside same) array = ap (info_offsets Counting o) (same ∙ e) ∙ sym (ap (λ i. offsets_by_info i count) (same ∙ e))
 offsets_by o k info size count (by_elements elements e is inside) array = info_same o count (info_of k info) (array is)
 
 no_offset : (size : ℕ) → AreInside size []
@@ -158,17 +158,17 @@ words_inside (suc n) from size least fits o i = elim (in_first o from (word_offs
   | inr j ↦ words_inside n (from + 4) size (omega arith) (omega arith) o j
 ]
 
-elements_inside : (elements : Bool) (count size : ℕ) → (elements ≡ true → 32 + count * 4 ≤ size) → AreInside size (traced_offsets (Some (trace.Array elements)) count)
+elements_inside : (elements : Bool) (count size : ℕ) → (elements ≡ true → 32 + count * 4 ≤ size) → AreInside size (offsets_by_info (Some (trace.Array elements)) count)
 elements_inside true count size fits = words_inside count 32 size (omega arith) (fits refl)
 elements_inside false count size fits = no_offset size
 
 -- the references of an object lie inside it
-pub offsets_inside : (k : VMGcKind) (info : Option TraceInfo) (size count : ℕ) → Traced k info size count → AreInside size (traced_offsets (info_of k info) count)
-offsets_inside k info size count (external is) = subst (λ (j : VMGcKind). AreInside size (traced_offsets (info_of j info) count)) (sym is) (no_offset size)
-offsets_inside k info size count (by_fields offsets e inside same) = subst (λ i. AreInside size (traced_offsets i count)) (sym (same ∙ e)) inside
+pub offsets_inside : (k : VMGcKind) (info : Option TraceInfo) (size count : ℕ) → Traced k info size count → AreInside size (offsets_by_info (info_of k info) count)
+offsets_inside k info size count (external is) = subst (λ (j : VMGcKind). AreInside size (offsets_by_info (info_of j info) count)) (sym is) (no_offset size)
+offsets_inside k info size count (by_fields offsets e inside same) = subst (λ i. AreInside size (offsets_by_info i count)) (sym (same ∙ e)) inside
 offsets_inside k info size count (by_elements elements e is fits) =
-    subst (λ (j : VMGcKind). AreInside size (traced_offsets (info_of j info) count)) (sym is)
-    (subst (λ i. AreInside size (traced_offsets i count)) (sym e) (elements_inside elements count size fits))
+    subst (λ (j : VMGcKind). AreInside size (offsets_by_info (info_of j info) count)) (sym is)
+    (subst (λ i. AreInside size (offsets_by_info i count)) (sym e) (elements_inside elements count size fits))
 
 -- only an array is traced as one
 pub array_by : (k : VMGcKind) (info : Option TraceInfo) (size count : ℕ) (elements : Bool) → Traced k info size count → info_of k info ≡ Some (trace.Array elements) → k ≡ ArrayRef

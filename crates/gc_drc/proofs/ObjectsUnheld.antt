@@ -16,15 +16,15 @@ use Rattle.gc_drc.specs.declared.space.CountedSpace.{CountedSpace}
 use Rattle.gc_drc.specs.declared.collect.phase.Phase.{Phase}
 use Rattle.gc_drc.specs.declared.collect.phase.Phase.TheVariants as phase
 use Rattle.gc_drc.specs.declared.heap.DrcHeap.{DrcHeap}
-use Rattle.gc_drc.specs.Backed.{Backing}
+use Rattle.gc_drc.specs.Backed.{CountingBacking}
 use Rattle.gc_heap.specs.declared.backing.Backing.TheVariants as backing
-use Rattle.gc_drc.specs.Layout.{object_at}
+use Rattle.gc_drc.specs.Layout.{counting_object_at}
 use Rattle.gc_drc.specs.View.{View}
-use Rattle.gc_drc.specs.Content.{seen_in}
-use Rattle.gc_drc.specs.States.{seen_of, drc_seen, IsBacked, IsDrcSound}
+use Rattle.gc_drc.specs.Content.{counting_seen_in}
+use Rattle.gc_drc.specs.States.{counting_seen_of, drc_seen, IsCountingBacked, IsDrcSound}
 use Rattle.gc_drc.specs.CollectPhases.{UnheldFreed, increments_before}
-use Rattle.gc_drc.specs.Objects.{BeginsIn}
-use Rattle.gc_drc.specs.ObjectsBetween.{StandsIn, Between, IsDrcUnderWay}
+use Rattle.gc_drc.specs.Objects.{CountingBeginsIn}
+use Rattle.gc_drc.specs.ObjectsBetween.{StandsIn, CountingBetween, IsDrcUnderWay}
 use Rattle.gc_drc.specs.PlainCounting.{IsUnheld, UnheldGone}
 use Rattle.gc_drc.proofs.OccLemmas.{occ-cases}
 use Rattle.gc_drc.proofs.UnreachedMemory.{none_in}
@@ -35,7 +35,7 @@ none_held : (o : Option HeapObject) → ((x : HeapObject) → o ≡ Some x → �
 none_held None never = refl
 none_held (Some x) never = absurd (never x refl)
 
-module _ (s : Start) (v : View) (before after : CountedSpace) (scopes : ℕ) (hosts : ℕ → Bool) (b : BeginsIn s v before scopes)
+module _ (s : Start) (v : View) (before after : CountedSpace) (scopes : ℕ) (hosts : ℕ → Bool) (b : CountingBeginsIn s v before scopes)
     (u : UnheldFreed (start s v before scopes b) s.hosts after hosts) where
   leaves : Leaves (start s v before scopes b) u.swept.view after
   leaves =
@@ -72,12 +72,12 @@ module _ (s : Start) (v : View) (before after : CountedSpace) (scopes : ℕ) (ho
   not_left : (p : ℕ) → IsUnheld s p → In p u.places → ⊥
   not_left p gone i = u.kept p i (unheld_so s v before scopes b p gone)
 
-  freed_so : (p : ℕ) → IsUnheld s p → finite.get (seen_in scopes after).content p ≡ None
-  freed_so p gone = none_held (finite.get (seen_in scopes after).content p) (λ o got.
+  freed_so : (p : ℕ) → IsUnheld s p → finite.get (counting_seen_in scopes after).content p ≡ None
+  freed_so p gone = none_held (finite.get (counting_seen_in scopes after).content p) (λ o got.
       not_left p gone (in_places p (place_after s v u.swept.view before after scopes b leaves p o got)))
 
   -- what was held and is gone is unheld
-  only_so : (p : ℕ) → IsHeld s.heap p → finite.get (seen_in scopes after).content p ≡ None → IsUnheld s p
+  only_so : (p : ℕ) → IsHeld s.heap p → finite.get (counting_seen_in scopes after).content p ≡ None → IsUnheld s p
   only_so p held none = elim (occ-cases p u.places) [
     | inr some ↦
         absurd (some_none held.0 (sym held.1 ∙ sym (still_held s v u.swept.view before after scopes b leaves p (in_left p (occ-In p u.places some))) ∙ none))
@@ -87,8 +87,8 @@ module _ (s : Start) (v : View) (before after : CountedSpace) (scopes : ℕ) (ho
       some_none : (o : HeapObject) → Some o ≡ None → ⊥
       some_none o is = cc
 
-  kept_so : (p : ℕ) → (IsUnheld s p → ⊥) → (o : Option HeapObject) → finite.get s.heap.content p ≡ o → finite.get (seen_in scopes after).content p ≡ o
-  kept_so p held None e = none_held (finite.get (seen_in scopes after).content p) (λ o got.
+  kept_so : (p : ℕ) → (IsUnheld s p → ⊥) → (o : Option HeapObject) → finite.get s.heap.content p ≡ o → finite.get (counting_seen_in scopes after).content p ≡ o
+  kept_so p held None e = none_held (finite.get (counting_seen_in scopes after).content p) (λ o got.
       none_some o (sym e ∙ sym (still_held s v u.swept.view before after scopes b leaves p (place_after s v u.swept.view before after scopes b leaves p o got)) ∙ got))
     where
       none_some : (o : HeapObject) → None ≡ Some o → ⊥
@@ -96,7 +96,7 @@ module _ (s : Start) (v : View) (before after : CountedSpace) (scopes : ℕ) (ho
   kept_so p held (Some o) e =
       still_held s v u.swept.view before after scopes b leaves p (in_left p (is_left p (held_place s v before scopes b p (o, e)) held)) ∙ e
 
-  unheld_gone : UnheldGone s (seen_in scopes after) hosts
+  unheld_gone : UnheldGone s (counting_seen_in scopes after) hosts
   unheld_gone = record {
     freed = freed_so;
     only = only_so;
@@ -107,8 +107,8 @@ module _ (s : Start) (v : View) (before after : CountedSpace) (scopes : ℕ) (ho
     hosts_kept = λ id all.
         u.gone.kept id (λ p i is number.
         let x = external_so s v before scopes b p i is in
-        let h = host_so s v before scopes b p (object_at before.memory p) x in
-        is_left p i (all p (object_at before.memory p) x (id_is id (u32_at (object_at before.memory p).bytes 0) (h.1 ∙ number))));
+        let h = host_so s v before scopes b p (counting_object_at before.memory p) x in
+        is_left p i (all p (counting_object_at before.memory p) x (id_is id (u32_at (counting_object_at before.memory p).bytes 0) (h.1 ∙ number))));
     counts = counts_anew s v u.swept.view before after scopes b leaves;
     attached = refl;
     scopes = ap (λ (h : HeapView). h.scopes) b.heap_is ∙ b.can.open_scopes;
@@ -116,19 +116,19 @@ module _ (s : Start) (v : View) (before after : CountedSpace) (scopes : ℕ) (ho
   }
 
 -- What stands after two increments.
-pub record AfterTwo (s : Start) (scopes : ℕ) (b : Backing) (hosts : ℕ → Bool) : Type 0 where
-  pub gone : UnheldGone s (seen_of scopes b) hosts
-  pub backed : IsBacked b
+pub record AfterTwo (s : Start) (scopes : ℕ) (b : CountingBacking) (hosts : ℕ → Bool) : Type 0 where
+  pub gone : UnheldGone s (counting_seen_of scopes b) hosts
+  pub backed : IsCountingBacked b
   pub open_scopes : scopes ≡ 0
 
-third : (s : Start) (v : View) (before space : CountedSpace) (scopes : ℕ) (at : Phase) (hosts : ℕ → Bool) → 2 ≡ increments_before at → (b : BeginsIn s v before scopes)
+third : (s : Start) (v : View) (before space : CountedSpace) (scopes : ℕ) (at : Phase) (hosts : ℕ → Bool) → 2 ≡ increments_before at → (b : CountingBeginsIn s v before scopes)
     → StandsIn s v before at space hosts → UnheldFreed (start s v before scopes b) s.hosts space hosts
 third s v before space scopes phase.MarkFrames hosts number b u = absurd (omega arith)
 third s v before space scopes phase.FreeUnheld hosts number b u = absurd (omega arith)
 third s v before space scopes phase.FreeUnreached hosts number b u = u
 third s v before space scopes phase.Done hosts number b u = absurd u
 
-pub after_two : (s : Start) (scopes : ℕ) (b : Backing) (at : Phase) (roots : List Root) (types : List Declaration) (hosts : ℕ → Bool) → Between s 2 scopes b at roots types hosts → AfterTwo s scopes b hosts
+pub after_two : (s : Start) (scopes : ℕ) (b : CountingBacking) (at : Phase) (roots : List Root) (types : List Declaration) (hosts : ℕ → Bool) → CountingBetween s 2 scopes b at roots types hosts → AfterTwo s scopes b hosts
 after_two s scopes backing.Detached at roots types hosts w = absurd w
 after_two s scopes (backing.Attached space) at roots types hosts w =
     let u = third s w.view w.before space scopes at hosts w.number w.begins w.stands in
@@ -147,15 +147,15 @@ goes_on A E s n progress.Continue below t = t.1
 goes_on A E s n progress.Complete below t = absurd (let last : n ≡ 3 = t.0 in omega arith)
 
 -- after one increment, and after two
-pub one_done : (E : Type 0) (s : Start) (scopes : ℕ) (b : Backing) (at : Phase) (roots : List Root) (types types' : List Declaration) (hosts : ℕ → Bool) (answer : GcProgress) → types' ≡ types
-    → Stepped Counting s 1 answer (Between s 1 scopes b at roots types hosts) E → Between s 1 scopes b at roots types' hosts
+pub one_done : (E : Type 0) (s : Start) (scopes : ℕ) (b : CountingBacking) (at : Phase) (roots : List Root) (types types' : List Declaration) (hosts : ℕ → Bool) (answer : GcProgress) → types' ≡ types
+    → Stepped Counting s 1 answer (CountingBetween s 1 scopes b at roots types hosts) E → CountingBetween s 1 scopes b at roots types' hosts
 one_done E s scopes b at roots types types' hosts answer same t =
-    subst (λ (ts : List Declaration). Between s 1 scopes b at roots ts hosts) (sym same) (goes_on (Between s 1 scopes b at roots types hosts) E s 1 answer (omega arith) t)
+    subst (λ (ts : List Declaration). CountingBetween s 1 scopes b at roots ts hosts) (sym same) (goes_on (CountingBetween s 1 scopes b at roots types hosts) E s 1 answer (omega arith) t)
 
-pub two_done : (E : Type 0) (s : Start) (scopes : ℕ) (b : Backing) (at : Phase) (roots : List Root) (types types' : List Declaration) (hosts : ℕ → Bool) (answer : GcProgress) → types' ≡ types
-    → Stepped Counting s 2 answer (Between s 2 scopes b at roots types' hosts) E → Between s 2 scopes b at roots types hosts
+pub two_done : (E : Type 0) (s : Start) (scopes : ℕ) (b : CountingBacking) (at : Phase) (roots : List Root) (types types' : List Declaration) (hosts : ℕ → Bool) (answer : GcProgress) → types' ≡ types
+    → Stepped Counting s 2 answer (CountingBetween s 2 scopes b at roots types' hosts) E → CountingBetween s 2 scopes b at roots types hosts
 two_done E s scopes b at roots types types' hosts answer same t =
-    subst (λ (ts : List Declaration). Between s 2 scopes b at roots ts hosts) same (goes_on (Between s 2 scopes b at roots types' hosts) E s 2 answer (omega arith) t)
+    subst (λ (ts : List Declaration). CountingBetween s 2 scopes b at roots ts hosts) same (goes_on (CountingBetween s 2 scopes b at roots types' hosts) E s 2 answer (omega arith) t)
 
 pub two_leave : (s : Start) (h : DrcHeap) (at : Phase) (roots : List Root) (types : List Declaration) (hosts : ℕ → Bool) → IsDrcUnderWay s 2 h at roots types hosts → UnheldGone s (drc_seen h) hosts
 two_leave s h at roots types hosts w = (after_two s h.scopes h.backing at roots types hosts w).gone

@@ -4,7 +4,7 @@ use Rattle.std.proofs.Math.Logic.{◌⊎◌}
 use Rattle.std.proofs.lemmas.Bool.{cases_eq, cases_lt, eq-eqb, ne_eqb}
 use Rattle.gc_memory.specs.Lists.{sum_over, occ}
 use Rattle.gc_memory.proofs.ListLemmas.{occ-same, occ-other}
-use Rattle.gc_drc.specs.Graph.{Graph, names}
+use Rattle.gc_drc.specs.Graph.{CountedGraph, names}
 use Rattle.gc_drc.specs.CollectOps.{same, without_one}
 
 pub same-is : (x y : ℕ) → x ≡ y → same x y ≡ 1
@@ -53,20 +53,20 @@ pub sum_over-at : (f : ℕ → ℕ) (x : ℕ) (xs : List ℕ) → 0 < occ x xs �
 sum_over-at f x xs h = omega (arith, sum_over-without f x xs h)
 
 -- the names of a place in one object that is held
-pub names-at : (g : Graph) (ps : List ℕ) (q x : ℕ) → 0 < occ q ps → occ x (g.words q) ≤ names g ps x
+pub names-at : (g : CountedGraph) (ps : List ℕ) (q x : ℕ) → 0 < occ q ps → occ x (g.words q) ≤ names g ps x
 names-at g ps q x h = sum_over-at (λ (p : ℕ). occ x (g.words p)) q ps h
 
 -- the names without one object
-pub names-without : (g : Graph) (ps : List ℕ) (q x : ℕ) → 0 < occ q ps → names g (without_one q ps) x + occ x (g.words q) ≡ names g ps x
+pub names-without : (g : CountedGraph) (ps : List ℕ) (q x : ℕ) → 0 < occ q ps → names g (without_one q ps) x + occ x (g.words q) ≡ names g ps x
 names-without g ps q x h = sum_over-without (λ (p : ℕ). occ x (g.words p)) q ps h
 
 -- a place that has a name in objects has a holder
-pub record Holder (g : Graph) (ps : List ℕ) (x : ℕ) : Type 0 where
+pub record Holder (g : CountedGraph) (ps : List ℕ) (x : ℕ) : Type 0 where
   pub at : ℕ
   pub held : 0 < occ at ps
   pub names_it : 0 < occ x (g.words at)
 
-pub holder : (g : Graph) (ps : List ℕ) (x : ℕ) → 0 < names g ps x → Holder g ps x
+pub holder : (g : CountedGraph) (ps : List ℕ) (x : ℕ) → 0 < names g ps x → Holder g ps x
 holder g [] x h = absurd (omega arith)
 holder g (p ∷ ps) x h = elim (occ-cases x (g.words p)) [
   | inr some ↦ record { at = p; held = omega (arith, occ-same p ps); names_it = some }

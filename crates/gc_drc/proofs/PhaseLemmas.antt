@@ -12,15 +12,15 @@ use Rattle.gc_heap.specs.declared.collection.GcProgress.TheVariants as progress
 use Rattle.gc_drc.specs.declared.space.CountedSpace.{CountedSpace}
 use Rattle.gc_drc.specs.declared.collect.phase.Phase.{Phase}
 use Rattle.gc_drc.specs.declared.collect.phase.Phase.TheVariants as phase
-use Rattle.gc_drc.specs.View.{View, Holds}
+use Rattle.gc_drc.specs.View.{View, HoldsBlocks}
 use Rattle.gc_drc.specs.CollectStates.{IsView}
 use Rattle.gc_drc.specs.CollectMemory.{Context}
 use Rattle.gc_drc.specs.CollectHosts.{HostsLeft}
 use Rattle.gc_drc.specs.CollectSweep.{FrameMarks}
 use Rattle.gc_drc.specs.CollectSwept.{FreesUnheld}
-use Rattle.gc_drc.specs.CollectSpan.{IsOf, Begins, HostsGone, Ends}
+use Rattle.gc_drc.specs.CollectSpan.{IsContextOf, Begins, HostsGone, Ends}
 use Rattle.gc_drc.specs.CollectUnreached.{held_context, Swept, FreesUnreached}
-use Rattle.gc_drc.specs.CollectPhases.{UnheldFreed, increments_before, StandsAt, StepsOn}
+use Rattle.gc_drc.specs.CollectPhases.{UnheldFreed, increments_before, CountingStandsAt, StepsOn}
 use Rattle.gc_drc.proofs.OccLemmas.{occ-cases}
 use Rattle.gc_drc.proofs.ReleaseLemmas.{places_once}
 use Rattle.gc_drc.proofs.UnreachedMemory.{none_in}
@@ -34,7 +34,7 @@ listed_once places list inside once x = elim (occ-cases x list) [
   | inr some ↦ let held = In-occ x places (inside x (occ-In x list some)) in let one = once x in omega arith
 ]
 
-view_of : (v : View) (s : CountedSpace) → Holds v s → IsView v
+view_of : (v : View) (s : CountedSpace) → HoldsBlocks v s → IsView v
 view_of v s h = record {
   once = places_once v s h;
   shown = listed_once v.places v.shown h.shown_part.inside h.shown_part.once;
@@ -44,7 +44,7 @@ view_of v s h = record {
 }
 
 -- the objects that frame slots hold are to be marked
-pub begins_marks : (c : Context) (s : CountedSpace) (roots : List Root) (types : List Declaration) (v : View) → IsOf c roots types → Begins c v s → FrameMarks c s (stack_words roots)
+pub begins_marks : (c : Context) (s : CountedSpace) (roots : List Root) (types : List Declaration) (v : View) → IsContextOf c roots types → Begins c v s → FrameMarks c s (stack_words roots)
 begins_marks c s roots types v is b = record {
   view = v;
   at = b.at;
@@ -131,49 +131,49 @@ left_of_start c places s w p i = w.at.from p (subst (λ (ps : List ℕ). In p ps
 
 -- EACH PHASE
 
-module _ (c : Context) (before : ℕ → Bool) (at : Phase) (roots : List Root) (types : List Declaration) (is : IsOf c roots types) where
-  pub at_frames : (s : CountedSpace) (hosts : ℕ → Bool) → at ≡ phase.MarkFrames → StandsAt c before at s hosts → FrameMarks c s (stack_words roots)
+module _ (c : Context) (before : ℕ → Bool) (at : Phase) (roots : List Root) (types : List Declaration) (is : IsContextOf c roots types) where
+  pub at_frames : (s : CountedSpace) (hosts : ℕ → Bool) → at ≡ phase.MarkFrames → CountingStandsAt c before at s hosts → FrameMarks c s (stack_words roots)
   at_frames s hosts e stands =
-      let first = subst (λ (p : Phase). StandsAt c before p s hosts) e stands in
+      let first = subst (λ (p : Phase). CountingStandsAt c before p s hosts) e stands in
       begins_marks c s roots types first.view is first.begins
 
-  pub frames_step : (s s' : CountedSpace) (hosts : ℕ → Bool) → at ≡ phase.MarkFrames → StandsAt c before at s hosts → ((o : Context) → FrameMarks o s (stack_words roots) → FrameMarks o s' [])
+  pub frames_step : (s s' : CountedSpace) (hosts : ℕ → Bool) → at ≡ phase.MarkFrames → CountingStandsAt c before at s hosts → ((o : Context) → FrameMarks o s (stack_words roots) → FrameMarks o s' [])
       → StepsOn c before progress.Continue at phase.FreeUnheld s' hosts
   frames_step s s' hosts e stands marks =
-      let first = subst (λ (p : Phase). StandsAt c before p s hosts) e stands in
+      let first = subst (λ (p : Phase). CountingStandsAt c before p s hosts) e stands in
       (sym (ap (λ (p : Phase). increments_before p + 1) e), record { marks = marks c (at_frames s hosts e stands); hosts_are = first.hosts_are })
 
-  pub at_unheld : (s : CountedSpace) (hosts : ℕ → Bool) → at ≡ phase.FreeUnheld → StandsAt c before at s hosts → FrameMarks c s []
-  at_unheld s hosts e stands = (subst (λ (p : Phase). StandsAt c before p s hosts) e stands).marks
+  pub at_unheld : (s : CountedSpace) (hosts : ℕ → Bool) → at ≡ phase.FreeUnheld → CountingStandsAt c before at s hosts → FrameMarks c s []
+  at_unheld s hosts e stands = (subst (λ (p : Phase). CountingStandsAt c before p s hosts) e stands).marks
 
-  pub unheld_step : (D : Type 0) (s s' : CountedSpace) (old new : finite.FinMap nat_cmp D) → at ≡ phase.FreeUnheld → StandsAt c before at s (has_host old)
+  pub unheld_step : (D : Type 0) (s s' : CountedSpace) (old new : finite.FinMap nat_cmp D) → at ≡ phase.FreeUnheld → CountingStandsAt c before at s (has_host old)
       → ((o : Context) → o.types ≡ types → FrameMarks o s [] → FreesUnheld D o s' old new) → StepsOn c before progress.Continue at phase.FreeUnreached s' (has_host new)
   unheld_step D s s' old new e stands frees =
-      let second = subst (λ (p : Phase). StandsAt c before p s (has_host old)) e stands in
+      let second = subst (λ (p : Phase). CountingStandsAt c before p s (has_host old)) e stands in
       (sym (ap (λ (p : Phase). increments_before p + 1) e), unheld_freed D c s' before old new second.hosts_are (frees c is.types_are second.marks))
 
-  pub unheld_part : (D : Type 0) (s s' : CountedSpace) (old new : finite.FinMap nat_cmp D) → at ≡ phase.FreeUnheld → StandsAt c before at s (has_host old)
+  pub unheld_part : (D : Type 0) (s s' : CountedSpace) (old new : finite.FinMap nat_cmp D) → at ≡ phase.FreeUnheld → CountingStandsAt c before at s (has_host old)
       → ((o : Context) → o.types ≡ types → FrameMarks o s [] → FreesUnheld D o s' old new) → IsPartOf new old
   unheld_part D s s' old new e stands frees = (frees c is.types_are (at_unheld s (has_host old) e stands)).hosts.part
 
-  pub at_unreached : (s : CountedSpace) (hosts : ℕ → Bool) → at ≡ phase.FreeUnreached → StandsAt c before at s hosts → (places : List ℕ) × Swept c places s
+  pub at_unreached : (s : CountedSpace) (hosts : ℕ → Bool) → at ≡ phase.FreeUnreached → CountingStandsAt c before at s hosts → (places : List ℕ) × Swept c places s
   at_unreached s hosts e stands =
-      let third = subst (λ (p : Phase). StandsAt c before p s hosts) e stands in
+      let third = subst (λ (p : Phase). CountingStandsAt c before p s hosts) e stands in
       (third.places, third.swept)
 
-  pub unreached_step : (D : Type 0) (s s' : CountedSpace) (old new : finite.FinMap nat_cmp D) → at ≡ phase.FreeUnreached → StandsAt c before at s (has_host old)
-      → ((o : Context) (places : List ℕ) → IsOf o roots types → Swept o places s → FreesUnreached D o places s' old new) → StepsOn c before progress.Complete at phase.Done s' (has_host new)
+  pub unreached_step : (D : Type 0) (s s' : CountedSpace) (old new : finite.FinMap nat_cmp D) → at ≡ phase.FreeUnreached → CountingStandsAt c before at s (has_host old)
+      → ((o : Context) (places : List ℕ) → IsContextOf o roots types → Swept o places s → FreesUnreached D o places s' old new) → StepsOn c before progress.Complete at phase.Done s' (has_host new)
   unreached_step D s s' old new e stands frees =
-      let third = subst (λ (p : Phase). StandsAt c before p s (has_host old)) e stands in (
+      let third = subst (λ (p : Phase). CountingStandsAt c before p s (has_host old)) e stands in (
         ap (λ (p : Phase). increments_before p + 1) e,
         unreached_ends D c third.places s' before old new (left_of_start c third.places s third.swept) third.gone (frees c third.places is third.swept),
       )
 
-  pub unreached_part : (D : Type 0) (s s' : CountedSpace) (old new : finite.FinMap nat_cmp D) → at ≡ phase.FreeUnreached → StandsAt c before at s (has_host old)
-      → ((o : Context) (places : List ℕ) → IsOf o roots types → Swept o places s → FreesUnreached D o places s' old new) → IsPartOf new old
+  pub unreached_part : (D : Type 0) (s s' : CountedSpace) (old new : finite.FinMap nat_cmp D) → at ≡ phase.FreeUnreached → CountingStandsAt c before at s (has_host old)
+      → ((o : Context) (places : List ℕ) → IsContextOf o roots types → Swept o places s → FreesUnreached D o places s' old new) → IsPartOf new old
   unreached_part D s s' old new e stands frees =
       let third = at_unreached s (has_host old) e stands in
       (frees c third.0 is third.1).hosts.part
 
-pub never_done : (c : Context) (before : ℕ → Bool) (at : Phase) (s : CountedSpace) (hosts : ℕ → Bool) → at ≡ phase.Done → StandsAt c before at s hosts → ⊥
-never_done c before at s hosts e stands = subst (λ (p : Phase). StandsAt c before p s hosts) e stands
+pub never_done : (c : Context) (before : ℕ → Bool) (at : Phase) (s : CountedSpace) (hosts : ℕ → Bool) → at ≡ phase.Done → CountingStandsAt c before at s hosts → ⊥
+never_done c before at s hosts e stands = subst (λ (p : Phase). CountingStandsAt c before p s hosts) e stands

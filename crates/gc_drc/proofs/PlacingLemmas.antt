@@ -17,17 +17,17 @@ use Rattle.gc_view.specs.Bytes.{put_bytes}
 use Rattle.gc_view.proofs.ByteLemmas.{part_in_same}
 use Rattle.gc_view.specs.Bytes.{u32_at, put_u32}
 use Rattle.gc_free.specs.Runs.{run, insert_run, IsSpread}
-use Rattle.gc_drc.specs.Layout.{count_at, size_at, block_of}
+use Rattle.gc_drc.specs.Layout.{count_at, counting_size_at, block_of}
 use Rattle.gc_drc.specs.View.{block_at}
 use Rattle.gc_drc.specs.Content.{at_places}
 use Rattle.gc_drc.specs.PlaceLaws.{in_or_not, get_in, get_none, spread-lies}
-use Rattle.gc_drc.specs.Placing.{WritesBlock}
+use Rattle.gc_drc.specs.Placing.{WritesCountingBlock}
 use Rattle.gc_drc.proofs.NewObjects.{insert_place}
 use Rattle.gc_drc.proofs.SeenLemmas.{get-insert-same, get-insert-other}
 
 -- zeros, a header, a count and a size, written one after the other
 pub writes_block : (m a b d e : List ℕ) (p : ℕ) (h : Header) (size : ℕ) → 28 ≤ size → size < 2 ^ 32 → p + size ≤ length m → a ≡ put_bytes m (p + 8) (replicate (size - 8) 0) → Wrote a b p 8
-    → u32_at b p ≡ h.kind_word → u32_at b (p + 4) ≡ h.type_word → d ≡ put_u64 b (p + 8) 1 → e ≡ put_u32 d (p + 20) size → WritesBlock m e p h size
+    → u32_at b p ≡ h.kind_word → u32_at b (p + 4) ≡ h.type_word → d ≡ put_u64 b (p + 8) 1 → e ≡ put_u32 d (p + 20) size → WritesCountingBlock m e p h size
 writes_block m a b d e p h size least small room first second kind ty third fourth =
     let zeros_len : length (replicate {A = ℕ} (size - 8) 0) ≡ size - 8 = length-replicate {A = ℕ} (size - 8) 0 in
     let w1 : Wrote m a (p + 8) (size - 8) = subst (λ x. Wrote m x (p + 8) (size - 8)) (sym first) (Wrote-zeros m (p + 8) (size - 8) (omega arith)) in
@@ -42,7 +42,7 @@ writes_block m a b d e p h size least small room first second kind ty third four
       kind_word = word_before w4 p (omega arith) ∙ word_before w3 p (omega arith) ∙ word-is b p ∙ kind;
       type_word = word_before w4 (p + 4) (omega arith) ∙ word_before w3 (p + 4) (omega arith) ∙ word-is b (p + 4) ∙ ty;
       count_word = word64_before w4 (p + 8) (omega arith) ∙ ap (λ x. count_at x p) third ∙ word64-put_u64 b (p + 8) 1 (omega arith) (omega arith);
-      size_word = ap (λ x. size_at x p) fourth ∙ word-put_u32 d (p + 20) size (omega arith) small;
+      size_word = ap (λ x. counting_size_at x p) fourth ∙ word-put_u32 d (p + 20) size (omega arith) small;
       zeros = part_in_same d e (p + 28) (size - 28) (Wrote-behind w4 (p + 28) (p + 28 + (size - 28)) (omega arith))
           ∙ part_in_same b d (p + 28) (size - 28) (Wrote-behind w3 (p + 28) (p + 28 + (size - 28)) (omega arith))
           ∙ part_in_same a b (p + 28) (size - 28) (Wrote-behind second (p + 28) (p + 28 + (size - 28)) (omega arith))

@@ -18,26 +18,26 @@ use Rattle.gc_view.specs.Heaps.{HeapObject, Counts}
 use Rattle.gc_heap.specs.Objects.{held_size, data_offset, IsHeaderOf, IsObjectData}
 use Rattle.gc_heap.specs.Barriers.{ShowsCount, one_in}
 use Rattle.gc_drc.specs.declared.space.CountedSpace.{CountedSpace}
-use Rattle.gc_drc.specs.Layout.{size_at, kind_at, data_at, object_at, IsWhole, IsExternalAt}
-use Rattle.gc_drc.specs.View.{View, Holds}
-use Rattle.gc_drc.specs.Content.{places_of, seen_in, IsSoundSpace}
+use Rattle.gc_drc.specs.Layout.{counting_size_at, counting_kind_at, counting_data_at, counting_object_at, IsCountingWhole, HasCountingHost}
+use Rattle.gc_drc.specs.View.{View, HoldsBlocks}
+use Rattle.gc_drc.specs.Content.{places_of, counting_seen_in, IsSoundSpace}
 use Rattle.gc_drc.proofs.CountsSeen.{counts_of}
 use Rattle.gc_drc.specs.PlaceLaws.{found_in, in_or_not}
 use Rattle.gc_drc.proofs.PlaceLemmas.{contains_in, contains_not}
-use Rattle.gc_drc.specs.SpaceLaws.{lies, places_are, held_size-at, length-data_at}
+use Rattle.gc_drc.specs.SpaceLaws.{lies, places_are, held_size-counting, length-counting_data_at}
 use Rattle.gc_drc.proofs.CountsSeen.{counts_are}
 
 -- What is known of the place of a held object.
 pub record HeldAt (s : CountedSpace) (q : ℕ) (o : HeapObject) : Type 0 where
   pub among : In q (places_of s.free.space.held)
-  pub is : o ≡ object_at s.memory q
-  pub whole : IsWhole s.memory q
-  pub least : 28 ≤ size_at s.memory q
-  pub inside : q + size_at s.memory q ≤ length s.memory
+  pub is : o ≡ counting_object_at s.memory q
+  pub whole : IsCountingWhole s.memory q
+  pub least : 28 ≤ counting_size_at s.memory q
+  pub inside : q + counting_size_at s.memory q ≤ length s.memory
   pub aligned : q % 16 ≡ 0
 
 -- what is known of a place among the blocks
-pub among_at : (s : CountedSpace) (q : ℕ) → IsSoundSpace s → In q (places_of s.free.space.held) → HeldAt s q (object_at s.memory q)
+pub among_at : (s : CountedSpace) (q : ℕ) → IsSoundSpace s → In q (places_of s.free.space.held) → HeldAt s q (counting_object_at s.memory q)
 among_at s q sound i =
     let v = sound.view in
     let h = sound.holds in
@@ -49,9 +49,9 @@ among_at s q sound i =
     let inside = l.inside in
     record { among = i; is = refl; whole = o.whole; least = omega arith; inside = omega arith; aligned = l.aligned }
 
-pub held_at : (s : CountedSpace) (scopes q : ℕ) (o : HeapObject) → IsSoundSpace s → finite.get (seen_in scopes s).content q ≡ Some o → HeldAt s q o
+pub held_at : (s : CountedSpace) (scopes q : ℕ) (o : HeapObject) → IsSoundSpace s → finite.get (counting_seen_in scopes s).content q ≡ Some o → HeldAt s q o
 held_at s scopes q o sound held =
-    let f = found_in (object_at s.memory) q o (places_of s.free.space.held) held in
+    let f = found_in (counting_object_at s.memory) q o (places_of s.free.space.held) held in
     subst (HeldAt s q) (sym f.1) (among_at s q sound f.0)
 
 -- its first two words are its header
@@ -64,24 +64,24 @@ header_of s q o kind_word type_word h kind ty = record {
 }
 
 -- its size word is its size
-pub size_of : (s : CountedSpace) (q : ℕ) (o : HeapObject) → HeldAt s q o → held_size Counting o ≡ size_at s.memory q
-size_of s q o h = ap (held_size Counting) h.is ∙ held_size-at s.memory q h.whole h.inside
+pub size_of : (s : CountedSpace) (q : ℕ) (o : HeapObject) → HeldAt s q o → held_size Counting o ≡ counting_size_at s.memory q
+size_of s q o h = ap (held_size Counting) h.is ∙ held_size-counting s.memory q h.whole h.inside
 
 -- the first word of its data
-data_word : (m : List ℕ) (q : ℕ) → 32 ≤ size_at m q → q + size_at m q ≤ length m → u32_at (data_at m q) 0 ≡ word m (q + 28)
+data_word : (m : List ℕ) (q : ℕ) → 32 ≤ counting_size_at m q → q + counting_size_at m q ≤ length m → u32_at (counting_data_at m q) 0 ≡ word m (q + 28)
 data_word m q least inside =
     let at : q + 28 + 0 ≡ q + 28 = omega arith in
-    u32_at-part m (q + 28) (size_at m q - 28) 0 (omega arith) (omega arith) ∙ ap (u32_at m) at ∙ sym (word-is m (q + 28))
+    u32_at-part m (q + 28) (counting_size_at m q - 28) 0 (omega arith) (omega arith) ∙ ap (u32_at m) at ∙ sym (word-is m (q + 28))
 
 -- What the words of an external object are.
 pub record HostAt (m : List ℕ) (q : ℕ) (o : HeapObject) : Type 0 where
   pub word_is : word m (q + 28) ≡ u32_at o.bytes 0
-  pub kind : kind_at m q ≡ ExternRef
-  pub external : IsExternalAt m q
+  pub kind : counting_kind_at m q ≡ ExternRef
+  pub external : HasCountingHost m q
 
 pub host_of : (s : CountedSpace) (q : ℕ) (o : HeapObject) → HeldAt s q o → o.kind ≡ ExternRef → HostAt s.memory q o
 host_of s q o h kind =
-    let at : kind_at s.memory q ≡ ExternRef = sym (ap (λ (x : HeapObject). x.kind) h.is) ∙ kind in
+    let at : counting_kind_at s.memory q ≡ ExternRef = sym (ap (λ (x : HeapObject). x.kind) h.is) ∙ kind in
     let x = h.whole.external at in
     record {
       word_is = sym (ap (λ (y : HeapObject). u32_at y.bytes 0) h.is ∙ data_word s.memory q (let size = x.size in omega arith) h.inside);
@@ -116,29 +116,29 @@ data_from StructRef = refl
 data_from ArrayRef = refl
 data_from ExnRef = refl
 
-data_read : (m : List ℕ) (q : ℕ) (k : VMGcKind) → 28 ≤ size_at m q → q + size_at m q ≤ length m
-    → take (length (data_at m q)) (drop (data_offset Counting k) (take (size_at m q) (drop q m))) ≡ data_at m q
+data_read : (m : List ℕ) (q : ℕ) (k : VMGcKind) → 28 ≤ counting_size_at m q → q + counting_size_at m q ≤ length m
+    → take (length (counting_data_at m q)) (drop (data_offset Counting k) (take (counting_size_at m q) (drop q m))) ≡ counting_data_at m q
 data_read m q k least inside =
-    ap (λ n. take n (drop (data_offset Counting k) (take (size_at m q) (drop q m)))) (length-data_at m q least inside)
-    ∙ ap (λ n. take (size_at m q - 28) (drop n (take (size_at m q) (drop q m)))) (data_from k)
-    ∙ part_of_part m q (size_at m q) 28 (size_at m q - 28) (omega arith) inside
+    ap (λ n. take n (drop (data_offset Counting k) (take (counting_size_at m q) (drop q m)))) (length-counting_data_at m q least inside)
+    ∙ ap (λ n. take (counting_size_at m q - 28) (drop n (take (counting_size_at m q) (drop q m)))) (data_from k)
+    ∙ part_of_part m q (counting_size_at m q) 28 (counting_size_at m q - 28) (omega arith) inside
 
 -- all its bytes
-pub data_of : (s : CountedSpace) (q : ℕ) (o : HeapObject) → HeldAt s q o → IsObjectData Counting o (take (size_at s.memory q) (drop q s.memory))
+pub data_of : (s : CountedSpace) (q : ℕ) (o : HeapObject) → HeldAt s q o → IsObjectData Counting o (take (counting_size_at s.memory q) (drop q s.memory))
 data_of s q o h =
     let m : List ℕ = s.memory in
     let inside = h.inside in
     let least = h.least in
-    let part : List ℕ = take (size_at m q) (drop q m) in
+    let part : List ℕ = take (counting_size_at m q) (drop q m) in
     let zero : q + 0 ≡ q = omega arith in
     record {
-      size = length-part m q (size_at m q) inside ∙ sym (size_of s q o h);
+      size = length-part m q (counting_size_at m q) inside ∙ sym (size_of s q o h);
       header = header_of s q o (u32_at part 0) (u32_at part 4) h
-          (u32_at-part m q (size_at m q) 0 (omega arith) inside ∙ ap (u32_at m) zero ∙ sym (word-is m q))
-          (u32_at-part m q (size_at m q) 4 (omega arith) inside ∙ sym (word-is m (q + 4)));
-      size_word = u32_at-part m q (size_at m q) 20 (omega arith) inside ∙ sym (word-is m (q + 20)) ∙ sym (size_of s q o h);
+          (u32_at-part m q (counting_size_at m q) 0 (omega arith) inside ∙ ap (u32_at m) zero ∙ sym (word-is m q))
+          (u32_at-part m q (counting_size_at m q) 4 (omega arith) inside ∙ sym (word-is m (q + 4)));
+      size_word = u32_at-part m q (counting_size_at m q) 20 (omega arith) inside ∙ sym (word-is m (q + 20)) ∙ sym (size_of s q o h);
       data_is = subst (λ (x : HeapObject). take (length x.bytes) (drop (data_offset Counting x.kind) part) ≡ x.bytes) (sym h.is)
-          (data_read m q (kind_at m q) least inside);
+          (data_read m q (counting_kind_at m q) least inside);
     }
 
 -- COUNTS
@@ -150,8 +150,8 @@ one_is q xs once = elim (in_or_not q xs) [
   | inr none ↦ ap (λ b. cond b 1 0) (contains_not q xs none) ∙ sym (occ-none q xs none)
 ]
 
-shows_view : (v : View) (s : CountedSpace) (scopes q n : ℕ) → Holds v s → v.marked ≡ [] → finite.get (counts_of v).counted q ≡ Some n
-    → ShowsCount (record (seen_in scopes s) { counts = counts_of v }) s.memory q n
+shows_view : (v : View) (s : CountedSpace) (scopes q n : ℕ) → HoldsBlocks v s → v.marked ≡ [] → finite.get (counts_of v).counted q ≡ Some n
+    → ShowsCount (record (counting_seen_in scopes s) { counts = counts_of v }) s.memory q n
 shows_view v s scopes q n h unmarked held =
     let f = found_in v.counted q n v.places held in
     let o = h.objects q f.0 in
@@ -169,7 +169,7 @@ shows_view v s scopes q n h unmarked held =
     }
 
 -- the bytes show each count
-pub shows_count : (s : CountedSpace) (scopes q n : ℕ) → IsSoundSpace s → finite.get (seen_in scopes s).counts.counted q ≡ Some n → ShowsCount (seen_in scopes s) s.memory q n
+pub shows_count : (s : CountedSpace) (scopes q n : ℕ) → IsSoundSpace s → finite.get (counting_seen_in scopes s).counts.counted q ≡ Some n → ShowsCount (counting_seen_in scopes s) s.memory q n
 shows_count s scopes q n sound =
-    subst (λ (c : Counts). finite.get c.counted q ≡ Some n → ShowsCount (record (seen_in scopes s) { counts = c }) s.memory q n) (sym (counts_are sound.view s sound.holds))
+    subst (λ (c : Counts). finite.get c.counted q ≡ Some n → ShowsCount (record (counting_seen_in scopes s) { counts = c }) s.memory q n) (sym (counts_are sound.view s sound.holds))
     (shows_view sound.view s scopes q n sound.holds sound.unmarked)

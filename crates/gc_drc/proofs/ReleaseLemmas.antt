@@ -10,19 +10,19 @@ use Rattle.gc_free.specs.Runs.{run, without, begins_at, IsSpread}
 use Rattle.gc_free.specs.Space.{Space, IsSound, give, places_end}
 use Rattle.gc_view.specs.Pages.{page}
 use Rattle.gc_drc.specs.declared.space.CountedSpace.{CountedSpace}
-use Rattle.gc_drc.specs.Layout.{size_at, block_of}
-use Rattle.gc_drc.specs.View.{View, Holds, ShowsObject, IsPart, Linked, block_at, count_of, flags_of}
+use Rattle.gc_drc.specs.Layout.{counting_size_at, block_of}
+use Rattle.gc_drc.specs.View.{View, HoldsBlocks, ShowsObject, IsPart, Linked, block_at, count_of, flags_of}
 use Rattle.gc_drc.specs.SpaceLaws.{lies, blocks_apart}
 use Rattle.gc_drc.specs.PlaceLaws.{spread-not_behind}
 use Rattle.gc_drc.specs.CollectOps.{same, without_one, unqueued, freed}
-use Rattle.gc_drc.specs.CollectMemory.{Context, Intact, At, CanRelease, CanFreeQueued, Releases}
+use Rattle.gc_drc.specs.CollectMemory.{Context, Intact, At, CanRelease, CanFreeQueued, ReleasesBlock}
 use Rattle.gc_drc.proofs.LinkLemmas.{linked_rest, without_first}
 use Rattle.gc_drc.proofs.MarkLemmas.{part_without}
 use Rattle.gc_drc.proofs.OccLemmas.{same-is, same-not, occ-without, occ-cases, sum_over-without}
 
 -- the block of an object that is given back
 abbrev pub block_in : List ℕ → ℕ → Run
-block_in m x = run x (block_of (size_at m x))
+block_in m x = run x (block_of (counting_size_at m x))
 
 -- blocks of which none begins there
 none_begins : (sizes : ℕ → ℕ) (x : ℕ) (ps : List ℕ) → occ x ps ≡ 0 → without (begins_at x) (map (block_at sizes) ps) ≡ map (block_at sizes) ps
@@ -58,7 +58,7 @@ length_without x (y ∷ ys) h = elim (cases_eq x y) [
 ]
 
 -- each place of a view stands once
-pub places_once : (v : View) (s : CountedSpace) → Holds v s → (x : ℕ) → occ x v.places ≤ 1
+pub places_once : (v : View) (s : CountedSpace) → HoldsBlocks v s → (x : ℕ) → occ x v.places ≤ 1
 places_once v s h x = once 16 v.places (blocks_apart v s h)
   where
     once : (low : ℕ) (ps : List ℕ) → IsSpread low (places_end s.free.space.capacity) (map (block_at v.sizes) ps) → occ x ps ≤ 1
@@ -102,14 +102,14 @@ shows_as v m p queue e o =
 
 -- an object is freed that is on no list afterwards
 pub at_released : (c : Context) (v : View) (s s' : CountedSpace) (x : ℕ) (queue : List ℕ) → At c v s → In x v.places → s'.memory ≡ s.memory
-    → s'.free.space ≡ give (block_in s.memory x) s.free.space → IsSound s'.free.space → s'.objects + 1 ≡ s.objects → s'.allocated + block_of (size_at s.memory x) ≡ s.allocated
+    → s'.free.space ≡ give (block_in s.memory x) s.free.space → IsSound s'.free.space → s'.objects + 1 ≡ s.objects → s'.allocated + block_of (counting_size_at s.memory x) ≡ s.allocated
     → s'.shown ≡ s.shown → occ x v.shown ≡ 0 → occ x v.marked ≡ 0 → occ x queue ≡ 0 → ((p : ℕ) → (p ≡ x → ⊥) → occ p queue ≡ occ p v.queue)
     → IsPart v.places queue → Linked s'.memory 24 s'.queued queue → At c (freed (record v { queue = queue }) x) s'
 at_released c v s s' x queue at i memory space sound objects allocated shown not_shown not_marked not_queued same_queue part linked =
     let h = at.holds in
     let held = In-occ x v.places i in
-    let size : size_at s.memory x ≡ v.sizes x = (h.objects x i).size_is in
-    let block : block_of (size_at s.memory x) ≡ block_of (v.sizes x) = ap block_of size in
+    let size : counting_size_at s.memory x ≡ v.sizes x = (h.objects x i).size_is in
+    let block : block_of (counting_size_at s.memory x) ≡ block_of (v.sizes x) = ap block_of size in
     let len = length_without x v.places held in
     let sum = sum_over-without (λ p. block_of (v.sizes p)) x v.places held in
     let count = h.count in
@@ -150,19 +150,19 @@ at_released c v s s' x queue at i memory space sound objects allocated shown not
 pub record Releasable (s : CountedSpace) (x : ℕ) : Type 0 where
   pub room : x + 28 ≤ length s.memory
   pub not_null : 0 < x
-  pub whole : x + block_of (size_at s.memory x) < 2 ^ 32
-  pub rounds : size_at s.memory x + 15 < 2 ^ 32
+  pub whole : x + block_of (counting_size_at s.memory x) < 2 ^ 32
+  pub rounds : counting_size_at s.memory x + 15 < 2 ^ 32
   pub held : Contains s.free.space.held (block_in s.memory x)
   pub some : 0 < s.objects
-  pub enough : block_of (size_at s.memory x) ≤ s.allocated
+  pub enough : block_of (counting_size_at s.memory x) ≤ s.allocated
 
 pub releasable : (s : CountedSpace) (x : ℕ) → CanRelease s x → Releasable s x
 releasable s x can =
     let v = can.view in
     let h = can.at.holds in
     let l = lies v s x h can.held in
-    let size : size_at s.memory x ≡ v.sizes x = (h.objects x can.held).size_is in
-    let block : block_of (size_at s.memory x) ≡ block_of (v.sizes x) = ap block_of size in
+    let size : counting_size_at s.memory x ≡ v.sizes x = (h.objects x can.held).size_is in
+    let block : block_of (counting_size_at s.memory x) ≡ block_of (v.sizes x) = ap block_of size in
     let sum = sum_over-without (λ p. block_of (v.sizes p)) x v.places (In-occ x v.places can.held) in
     let len = length_without x v.places (In-occ x v.places can.held) in
     let count = h.count in
@@ -188,12 +188,12 @@ releasable s x can =
     block_held sizes y (p ∷ ps) (there i) = let r = block_held sizes y ps i in (suc r.0, omega (arith, r.1), r.2)
 
 -- what was taken off the free list
-pub releases : (s s' : CountedSpace) (x size : ℕ) → CanRelease s x → size ≡ size_at s.memory x → s'.memory ≡ s.memory
+pub releases : (s s' : CountedSpace) (x size : ℕ) → CanRelease s x → size ≡ counting_size_at s.memory x → s'.memory ≡ s.memory
     → s'.free.space ≡ give (run x ((size + 15) / 16 * 16)) s.free.space → IsSound s'.free.space → s'.objects ≡ s.objects - 1
-    → s'.allocated ≡ s.allocated - (size + 15) / 16 * 16 → s'.shown ≡ s.shown → s'.queued ≡ s.queued → Releases s s' x
+    → s'.allocated ≡ s.allocated - (size + 15) / 16 * 16 → s'.shown ≡ s.shown → s'.queued ≡ s.queued → ReleasesBlock s s' x
 releases s s' x size can read memory space sound objects allocated shown queued =
     let r = releasable s x can in
-    let block : (size + 15) / 16 * 16 ≡ block_of (size_at s.memory x) = ap block_of read in
+    let block : (size + 15) / 16 * 16 ≡ block_of (counting_size_at s.memory x) = ap block_of read in
     let some = r.some in
     let enough = r.enough in
     record {
@@ -207,7 +207,7 @@ releases s s' x size can read memory space sound objects allocated shown queued 
     }
 
 -- an object that is on no list is freed
-pub freed_at : (c : Context) (v : View) (s s' : CountedSpace) (x : ℕ) → Releases s s' x → At c v s → In x v.places → occ x v.shown ≡ 0 → occ x v.queue ≡ 0 → occ x v.marked ≡ 0
+pub freed_at : (c : Context) (v : View) (s s' : CountedSpace) (x : ℕ) → ReleasesBlock s s' x → At c v s → In x v.places → occ x v.shown ≡ 0 → occ x v.queue ≡ 0 → occ x v.marked ≡ 0
     → At c (freed v x) s'
 freed_at c v s s' x r at i not_shown not_queued not_marked =
     let h = at.holds in
@@ -215,7 +215,7 @@ freed_at c v s s' x r at i not_shown not_queued not_marked =
     (subst (λ (n : ℕ). Linked s'.memory 24 n v.queue) (sym r.queued) (subst (λ (m : List ℕ). Linked m 24 s.queued v.queue) (sym r.memory) h.queue_linked))
 
 -- the first of the queue is freed
-pub freed_first : (c : Context) (v : View) (s s1 : CountedSpace) (x q : ℕ) (rest : List ℕ) → Releases s s1 x → q ≡ word s1.memory (x + 24) → At c v s → v.queue ≡ x ∷ rest
+pub freed_first : (c : Context) (v : View) (s s1 : CountedSpace) (x q : ℕ) (rest : List ℕ) → ReleasesBlock s s1 x → q ≡ word s1.memory (x + 24) → At c v s → v.queue ≡ x ∷ rest
     → count_of v x ≡ 1 → occ x v.marked ≡ 0 → At c (freed (unqueued v x) x) (record s1 { queued = q })
 freed_first c v s s1 x q rest r read at is alone not_marked =
     let h = at.holds in
@@ -247,15 +247,15 @@ can_release_queued s x can = record {
   held = can.at.holds.queue_part.inside x (occ-In x can.view.queue can.queued);
 }
 
-pub room_released : (s s1 : CountedSpace) (x : ℕ) → CanFreeQueued s x → Releases s s1 x → x + 28 ≤ length s1.memory
+pub room_released : (s s1 : CountedSpace) (x : ℕ) → CanFreeQueued s x → ReleasesBlock s s1 x → x + 28 ≤ length s1.memory
 room_released s s1 x can r =
     let room = (releasable s x (can_release_queued s x can)).room in
     let same_length : length s1.memory ≡ length s.memory = ap (λ (m : List ℕ). length m) r.memory in
     omega arith
 
 -- the block that is given back, by what was read
-pub release_held : (s : CountedSpace) (x size i : ℕ) → CanRelease s x → size ≡ size_at s.memory x → i ≡ x → Contains s.free.space.held (run i ((size + 15) / 16 * 16))
+pub release_held : (s : CountedSpace) (x size i : ℕ) → CanRelease s x → size ≡ counting_size_at s.memory x → i ≡ x → Contains s.free.space.held (run i ((size + 15) / 16 * 16))
 release_held s x size i can read e =
-    let block : block_of (size_at s.memory x) ≡ (size + 15) / 16 * 16 = sym (ap block_of read) in
+    let block : block_of (counting_size_at s.memory x) ≡ (size + 15) / 16 * 16 = sym (ap block_of read) in
     subst (λ (j : ℕ). Contains s.free.space.held (run j ((size + 15) / 16 * 16))) (sym e)
     (subst (λ (n : ℕ). Contains s.free.space.held (run x n)) block (releasable s x can).held)

@@ -14,7 +14,7 @@ use Rattle.gc_memory.specs.Changes.{Wrote}
 use Rattle.gc_memory.specs.Lists.{In, here, there}
 use Rattle.gc_memory.proofs.ChangeLemmas.{Wrote-put_u32, Wrote-put_u64, Wrote-within, Wrote-then, Wrote-behind, Wrote-before}
 use Rattle.gc_memory.proofs.WordLemmas.{word_apart, word64_apart, word-put_u32, word64-put_u64, word_in_same}
-use Rattle.gc_drc.specs.Layout.{size_at, kind_at, IsWhole, IsExternalAt}
+use Rattle.gc_drc.specs.Layout.{counting_size_at, counting_kind_at, IsCountingWhole, HasCountingHost}
 use Rattle.gc_types.specs.Kinds.{kind_of}
 use Rattle.gc_drc.specs.View.{Linked, last, link}
 use Rattle.gc_drc.specs.CollectMemory.{Context, IsContext, SameObject, Intact}
@@ -120,8 +120,8 @@ sets_as s f' c' l' k' ef ec el ek = record {
 -- THE OBJECTS
 
 -- a kind is the upper bits of its word
-pub kind_at_same : (m m' : List ℕ) (p : ℕ) → word m' p / 8 ≡ word m p / 8 → kind_at m' p ≡ kind_at m p
-unfolding kind_at
+pub kind_at_same : (m m' : List ℕ) (p : ℕ) → word m' p / 8 ≡ word m p / 8 → counting_kind_at m' p ≡ counting_kind_at m p
+unfolding counting_kind_at
 kind_at_same m m' p e =
     let part : kind_part (word m' p) ≡ kind_part (word m p) = omega arith in
     ap (λ (n : ℕ). kind_of n) part
@@ -132,22 +132,22 @@ same_written {m = m} {x = x} s = record {
   kind = s.kind;
   ty = s.ty;
   size = s.size;
-  bytes = Wrote-behind s.around (x + 28) (x + size_at m x) (omega arith);
+  bytes = Wrote-behind s.around (x + 28) (x + counting_size_at m x) (omega arith);
 }
 
 -- an object that lies apart from it
-pub same_apart : {m m' : List ℕ} {x f c l k : ℕ} → Sets m m' x f c l k → (p : ℕ) → 28 ≤ size_at m p → (p + size_at m p ≤ x) ⊎ (x + 28 ≤ p) → SameObject m m' p
+pub same_apart : {m m' : List ℕ} {x f c l k : ℕ} → Sets m m' x f c l k → (p : ℕ) → 28 ≤ counting_size_at m p → (p + counting_size_at m p ≤ x) ⊎ (x + 28 ≤ p) → SameObject m m' p
 same_apart {m = m} {x = x} s p least (inl h) = record {
   kind = ap (λ (n : ℕ). n / 8) (word_apart s.around p (inl (omega arith)));
   ty = word_apart s.around (p + 4) (inl (omega arith));
   size = word_apart s.around (p + 20) (inl (omega arith));
-  bytes = Wrote-before s.around (p + 28) (p + size_at m p) h;
+  bytes = Wrote-before s.around (p + 28) (p + counting_size_at m p) h;
 }
 same_apart {m = m} {x = x} s p least (inr h) = record {
   kind = ap (λ (n : ℕ). n / 8) (word_apart s.around p (inr h));
   ty = word_apart s.around (p + 4) (inr (omega arith));
   size = word_apart s.around (p + 20) (inr (omega arith));
-  bytes = Wrote-behind s.around (p + 28) (p + size_at m p) (omega arith);
+  bytes = Wrote-behind s.around (p + 28) (p + counting_size_at m p) (omega arith);
 }
 
 pub same_then : {m m' m2 : List ℕ} {p : ℕ} → SameObject m m' p → SameObject m' m2 p → SameObject m m2 p
@@ -159,11 +159,11 @@ same_then {m = m} {m' = m'} {m2 = m2} {p = p} s t = record {
 }
 
 -- an object that is the same is whole
-pub whole_same : (m m' : List ℕ) (p : ℕ) → SameObject m m' p → IsWhole m p → IsWhole m' p
+pub whole_same : (m m' : List ℕ) (p : ℕ) → SameObject m m' p → IsCountingWhole m p → IsCountingWhole m' p
 whole_same m m' p s w =
-    let kind_is : kind_at m p ≡ kind_at m' p = sym (kind_at_same m m' p s.kind) in
+    let kind_is : counting_kind_at m p ≡ counting_kind_at m' p = sym (kind_at_same m m' p s.kind) in
     let part : kind_part (word m p) ≡ kind_part (word m' p) = let e = s.kind in omega arith in
-    let external : kind_at m' p ≡ ExternRef → IsExternalAt m' p = λ e.
+    let external : counting_kind_at m' p ≡ ExternRef → HasCountingHost m' p = λ e.
     let x = w.external (kind_is ∙ e) in
     let size = s.size in
     let is_32 = x.size in
@@ -174,13 +174,13 @@ whole_same m m' p s w =
     record {
       kind = subst (λ k. IsOfKind k (word m' p)) kind_is (w.kind ∙ part);
       object_kind = subst (λ k. IsObjectKind k) kind_is w.object_kind;
-      least = subst (λ k. first_offset Counting k ≤ size_at m' p) kind_is (let a = w.least in let e = s.size in omega arith);
+      least = subst (λ k. first_offset Counting k ≤ counting_size_at m' p) kind_is (let a = w.least in let e = s.size in omega arith);
       external = external;
     }
 
 -- where the objects of a start lie, one is apart from another
 pub apart_at : (c : Context) (x p : ℕ) → IsContext c → In x c.graph.places → In p c.graph.places → (p ≡ x → ⊥)
-    → (p + size_at c.memory p ≤ x) ⊎ (x + 28 ≤ p)
+    → (p + counting_size_at c.memory p ≤ x) ⊎ (x + 28 ≤ p)
 apart_at c x p is i j ne = elim (cases_lt p x) [
   | inl before ↦ inl (is.apart p x j i before)
   | inr from ↦ inr (

@@ -13,9 +13,9 @@ use Rattle.gc_view.specs.Heaps.{HeapView, Counts}
 use Rattle.gc_heap.specs.Content.{IsHeld}
 use Rattle.gc_heap.specs.Barriers.{IsNamed, is_alone, raise, lower, show, cloned, dropped, exposed, CanName, CanUnname}
 use Rattle.gc_drc.specs.declared.space.CountedSpace.{CountedSpace}
-use Rattle.gc_drc.specs.Layout.{block_of, object_at}
-use Rattle.gc_drc.specs.View.{View, count_of, Holds}
-use Rattle.gc_drc.specs.Content.{at_places, places_of, counts_at, seen_in, IsSoundSpace}
+use Rattle.gc_drc.specs.Layout.{block_of, counting_object_at}
+use Rattle.gc_drc.specs.View.{View, count_of, HoldsBlocks}
+use Rattle.gc_drc.specs.Content.{at_places, places_of, counts_at, counting_seen_in, IsSoundSpace}
 use Rattle.gc_drc.proofs.CountsSeen.{counts_of}
 use Rattle.gc_drc.specs.PlaceLaws.{in_or_not, get_in, get_none, found_in}
 use Rattle.gc_drc.proofs.PlaceLemmas.{at_places-same, contains_in, contains_not}
@@ -57,7 +57,7 @@ same_view h k a c n b g s t = λ i. record { attached = a i; content = c i; capa
 
 -- THE COUNTS OF A VIEW
 
-raised_counts : (v : View) (x : ℕ) → In x v.places → counts_of (operation.raised v x) ≡ raise (Some (v.counted x)) x (counts_of v)
+raised_counts : (v : View) (x : ℕ) → In x v.places → counts_of (operation.counting_raised v x) ≡ raise (Some (v.counted x)) x (counts_of v)
 raised_counts v x i = same_counts _ _
     (at_places-put v.counted (λ y. v.counted y + cond (nat_eq y x) 1 0) x (v.counted x + 1) v.places i
     (ap (λ b. v.counted x + cond b 1 0) (eq-eqb x x refl)) (λ p j ne. ap (λ b. v.counted p + cond b 1 0) (ne_eqb p x ne) ∙ omega arith))
@@ -103,7 +103,7 @@ set_cond : (b : Bool) (x : ℕ) (list : List ℕ) → finset.from_list {R = nat_
 set_cond true x list = refl
 set_cond false x list = refl
 
-lowered_counts : (v : View) (x : ℕ) → In x v.places → 0 < v.counted x → counts_of (operation.lowered v x) ≡ lower (Some (v.counted x)) x (counts_of v)
+lowered_counts : (v : View) (x : ℕ) → In x v.places → 0 < v.counted x → counts_of (operation.counting_lowered v x) ≡ lower (Some (v.counted x)) x (counts_of v)
 lowered_counts v x i named = same_counts _ _ (lessened v x i) refl
     (set_cond (nat_eq (count_of v x) 1) x v.queue
     ∙ ap (λ b. cond b (finset.insert (finset.from_list v.queue) x) (finset.from_list v.queue)) (last_name v x named))
@@ -118,7 +118,7 @@ insert_again x list l = finset.same_set nat_cmp_total finset.nat_cmp-IsAntisymme
       | inr ne ↦ ap (λ b. b || finset.contains (finset.from_list {R = nat_cmp} list) q) (unsigned_tied q x ∙ ne_eqb q x ne)
     ]
 
-exposed_counts : (v : View) (x : ℕ) → In x v.places → counts_of (operation.exposed v x) ≡ show (Some (v.counted x)) x (counts_of v)
+exposed_counts : (v : View) (x : ℕ) → In x v.places → counts_of (operation.counting_exposed v x) ≡ show (Some (v.counted x)) x (counts_of v)
 exposed_counts v x i = same_counts _ _ (lessened v x i) (elim (cases_eq (occ x v.shown) 0) [
   | inl none ↦ set_cond (nat_eq (occ x v.shown) 0) x v.shown ∙ ap (λ b. cond b (finset.insert (finset.from_list v.shown) x) (finset.from_list v.shown)) (eq-eqb (occ x v.shown) 0 none)
   | inr some ↦ set_cond (nat_eq (occ x v.shown) 0) x v.shown ∙ ap (λ b. cond b (finset.insert (finset.from_list v.shown) x) (finset.from_list v.shown)) (ne_eqb (occ x v.shown) 0 some)
@@ -131,67 +131,67 @@ exposed_counts v x i = same_counts _ _ (lessened v x i) (elim (cases_eq (occ x v
 -- WHAT IS SEEN
 
 -- the count of a place of a sound space
-pub seen_count : (v : View) (s : CountedSpace) (x : ℕ) → Holds v s → In x v.places → finite.get (counts_at s.memory (places_of s.free.space.held)).counted x ≡ Some (v.counted x)
+pub seen_count : (v : View) (s : CountedSpace) (x : ℕ) → HoldsBlocks v s → In x v.places → finite.get (counts_at s.memory (places_of s.free.space.held)).counted x ≡ Some (v.counted x)
 seen_count v s x h i = ap (λ (c : Counts). finite.get c.counted x) (counts_are v s h) ∙ get_in v.counted x v.places i
 
 -- a held place is a place of the view
-pub held_place : (v : View) (s : CountedSpace) (scopes x : ℕ) → Holds v s → IsHeld (seen_in scopes s) x → In x v.places
-held_place v s scopes x h held = subst (In x) (places_are v s h) (found_in (object_at s.memory) x held.0 (places_of s.free.space.held) held.1).0
+pub held_place : (v : View) (s : CountedSpace) (scopes x : ℕ) → HoldsBlocks v s → IsHeld (counting_seen_in scopes s) x → In x v.places
+held_place v s scopes x h held = subst (In x) (places_are v s h) (found_in (counting_object_at s.memory) x held.0 (places_of s.free.space.held) held.1).0
 
 -- the space shows another view of the same objects
 pub record Recounts (v w : View) (s t : CountedSpace) (x : ℕ) : Type 0 where
-  pub before : Holds v s
+  pub before : HoldsBlocks v s
   pub place : In x v.places
-  pub after : Holds w t
+  pub after : HoldsBlocks w t
   pub tends : Tends s.memory t.memory x
   pub free : t.free ≡ s.free
   pub places : w.places ≡ v.places
   pub sizes : w.sizes ≡ v.sizes
 
-pub recounted_view : (v w : View) (s t : CountedSpace) (x scopes : ℕ) → Recounts v w s t x → seen_in scopes t ≡ record (seen_in scopes s) { counts = counts_of w }
+pub recounted_view : (v w : View) (s t : CountedSpace) (x scopes : ℕ) → Recounts v w s t x → counting_seen_in scopes t ≡ record (counting_seen_in scopes s) { counts = counts_of w }
 recounted_view v w s t x scopes r =
     let after = r.after in
     let before = r.before in
     same_view _ _ refl
-    (ap (λ ps. at_places (object_at t.memory) ps) (ap (λ f. places_of f.space.held) r.free ∙ places_are v s before)
-    ∙ at_places-same (object_at s.memory) (object_at t.memory) v.places (λ p i. (tended_object v s t.memory p x before i r.place r.tends).object)
-    ∙ ap (λ ps. at_places (object_at s.memory) ps) (sym (places_are v s before)))
+    (ap (λ ps. at_places (counting_object_at t.memory) ps) (ap (λ f. places_of f.space.held) r.free ∙ places_are v s before)
+    ∙ at_places-same (counting_object_at s.memory) (counting_object_at t.memory) v.places (λ p i. (tended_object v s t.memory p x before i r.place r.tends).object)
+    ∙ ap (λ ps. at_places (counting_object_at s.memory) ps) (sym (places_are v s before)))
     r.tends.around.same_length
     (after.allocated ∙ ap₂ (λ (sizes : ℕ → ℕ) ps. sum_over (λ p. block_of (sizes p)) ps) r.sizes r.places ∙ sym before.allocated)
     refl refl (counts_are w t after)
 
-pub seen_raised : (v : View) (s t : CountedSpace) (x scopes : ℕ) → Recounts v (operation.raised v x) s t x → seen_in scopes t ≡ cloned (seen_in scopes s) x
+pub seen_raised : (v : View) (s t : CountedSpace) (x scopes : ℕ) → Recounts v (operation.counting_raised v x) s t x → counting_seen_in scopes t ≡ cloned (counting_seen_in scopes s) x
 seen_raised v s t x scopes r =
-    recounted_view v (operation.raised v x) s t x scopes r
-    ∙ ap (λ c. record (seen_in scopes s) { counts = c })
+    recounted_view v (operation.counting_raised v x) s t x scopes r
+    ∙ ap (λ c. record (counting_seen_in scopes s) { counts = c })
     (raised_counts v x r.place ∙ ap₂ (λ n c. raise n x c) (sym (seen_count v s x r.before r.place)) (sym (counts_are v s r.before)))
 
-pub seen_lowered : (v : View) (s t : CountedSpace) (x scopes : ℕ) → 0 < v.counted x → Recounts v (operation.lowered v x) s t x → seen_in scopes t ≡ dropped (seen_in scopes s) x
+pub seen_lowered : (v : View) (s t : CountedSpace) (x scopes : ℕ) → 0 < v.counted x → Recounts v (operation.counting_lowered v x) s t x → counting_seen_in scopes t ≡ dropped (counting_seen_in scopes s) x
 seen_lowered v s t x scopes named r =
-    recounted_view v (operation.lowered v x) s t x scopes r
-    ∙ ap (λ c. record (seen_in scopes s) { counts = c })
+    recounted_view v (operation.counting_lowered v x) s t x scopes r
+    ∙ ap (λ c. record (counting_seen_in scopes s) { counts = c })
     (lowered_counts v x r.place named ∙ ap₂ (λ n c. lower n x c) (sym (seen_count v s x r.before r.place)) (sym (counts_are v s r.before)))
 
-pub seen_exposed : (v : View) (s t : CountedSpace) (x scopes : ℕ) → Recounts v (operation.exposed v x) s t x → seen_in scopes t ≡ exposed (seen_in scopes s) x
+pub seen_exposed : (v : View) (s t : CountedSpace) (x scopes : ℕ) → Recounts v (operation.counting_exposed v x) s t x → counting_seen_in scopes t ≡ exposed (counting_seen_in scopes s) x
 seen_exposed v s t x scopes r =
-    recounted_view v (operation.exposed v x) s t x scopes r
-    ∙ ap (λ c. record (seen_in scopes s) { counts = c })
+    recounted_view v (operation.counting_exposed v x) s t x scopes r
+    ∙ ap (λ c. record (counting_seen_in scopes s) { counts = c })
     (exposed_counts v x r.place ∙ ap₂ (λ n c. show n x c) (sym (seen_count v s x r.before r.place)) (sym (counts_are v s r.before)))
 
 -- a 31-bit number is no place
-number_count : (v : View) (s : CountedSpace) (x : ℕ) → Holds v s → x % 2 ≡ 1 → finite.get (counts_at s.memory (places_of s.free.space.held)).counted x ≡ None
+number_count : (v : View) (s : CountedSpace) (x : ℕ) → HoldsBlocks v s → x % 2 ≡ 1 → finite.get (counts_at s.memory (places_of s.free.space.held)).counted x ≡ None
 number_count v s x h odd =
     ap (λ (c : Counts). finite.get c.counted x) (counts_are v s h)
     ∙ get_none v.counted x v.places (λ i. let even = (lies v s x h i).aligned in omega arith)
 
-pub number_cloned : (s : CountedSpace) (x scopes : ℕ) → IsSoundSpace s → x % 2 ≡ 1 → seen_in scopes s ≡ cloned (seen_in scopes s) x
-number_cloned s x scopes sound odd = ap (λ n. record (seen_in scopes s) { counts = raise n x (counts_at s.memory (places_of s.free.space.held)) }) (sym (number_count sound.view s x sound.holds odd))
+pub number_cloned : (s : CountedSpace) (x scopes : ℕ) → IsSoundSpace s → x % 2 ≡ 1 → counting_seen_in scopes s ≡ cloned (counting_seen_in scopes s) x
+number_cloned s x scopes sound odd = ap (λ n. record (counting_seen_in scopes s) { counts = raise n x (counts_at s.memory (places_of s.free.space.held)) }) (sym (number_count sound.view s x sound.holds odd))
 
-pub number_dropped : (s : CountedSpace) (x scopes : ℕ) → IsSoundSpace s → x % 2 ≡ 1 → seen_in scopes s ≡ dropped (seen_in scopes s) x
-number_dropped s x scopes sound odd = ap (λ n. record (seen_in scopes s) { counts = lower n x (counts_at s.memory (places_of s.free.space.held)) }) (sym (number_count sound.view s x sound.holds odd))
+pub number_dropped : (s : CountedSpace) (x scopes : ℕ) → IsSoundSpace s → x % 2 ≡ 1 → counting_seen_in scopes s ≡ dropped (counting_seen_in scopes s) x
+number_dropped s x scopes sound odd = ap (λ n. record (counting_seen_in scopes s) { counts = lower n x (counts_at s.memory (places_of s.free.space.held)) }) (sym (number_count sound.view s x sound.holds odd))
 
-pub number_exposed : (s : CountedSpace) (x scopes : ℕ) → IsSoundSpace s → x % 2 ≡ 1 → seen_in scopes s ≡ exposed (seen_in scopes s) x
-number_exposed s x scopes sound odd = ap (λ n. record (seen_in scopes s) { counts = show n x (counts_at s.memory (places_of s.free.space.held)) }) (sym (number_count sound.view s x sound.holds odd))
+pub number_exposed : (s : CountedSpace) (x scopes : ℕ) → IsSoundSpace s → x % 2 ≡ 1 → counting_seen_in scopes s ≡ exposed (counting_seen_in scopes s) x
+number_exposed s x scopes sound odd = ap (λ n. record (counting_seen_in scopes s) { counts = show n x (counts_at s.memory (places_of s.free.space.held)) }) (sym (number_count sound.view s x sound.holds odd))
 
 -- A HEAP'S OWN VIEW
 
@@ -200,17 +200,17 @@ pub sound_after : (v w : View) (s t : CountedSpace) (x : ℕ) → v.marked ≡ [
 sound_after v w s t x unmarked same r = record { view = w; holds = r.after; unmarked = same ∙ unmarked }
 
 -- what a word that may be named or given up says of its object
-pub even_held : (s : CountedSpace) (scopes x : ℕ) → IsNamed (seen_in scopes s) x → (x % 2 ≡ 1 → ⊥) → IsHeld (seen_in scopes s) x
+pub even_held : (s : CountedSpace) (scopes x : ℕ) → IsNamed (counting_seen_in scopes s) x → (x % 2 ≡ 1 → ⊥) → IsHeld (counting_seen_in scopes s) x
 even_held s scopes x (inl odd) even = absurd (even odd)
 even_held s scopes x (inr held) even = held
 
-pub count_below : (v : View) (s : CountedSpace) (x : ℕ) → Holds v s → In x v.places → v.counted x < 18446744073709551613 → count_of v x + 1 < 2 ^ 64
+pub count_below : (v : View) (s : CountedSpace) (x : ℕ) → HoldsBlocks v s → In x v.places → v.counted x < 18446744073709551613 → count_of v x + 1 < 2 ^ 64
 count_below v s x h i below =
     let a = h.shown_part.once x in
     let b = h.queue_part.once x in omega arith
 
 -- a word may be named: its object can be raised
-pub can_raise : (s : CountedSpace) (scopes x : ℕ) → IsSoundSpace s → CanName (seen_in scopes s) x → (x % 2 ≡ 1 → ⊥) → operation.CanRaise s x
+pub can_raise : (s : CountedSpace) (scopes x : ℕ) → IsSoundSpace s → CanName (counting_seen_in scopes s) x → (x % 2 ≡ 1 → ⊥) → operation.CanRaise s x
 can_raise s scopes x sound can even =
     let v = sound.view in
     let h = sound.holds in
@@ -218,7 +218,7 @@ can_raise s scopes x sound can even =
     record { view = v; holds = h; place = i; below = count_below v s x h i (can.below (v.counted x) (seen_count v s x h i)) }
 
 -- a word may be given up: its object can be lowered
-pub can_lower : (s : CountedSpace) (scopes x : ℕ) → IsSoundSpace s → CanUnname (seen_in scopes s) x → (x % 2 ≡ 1 → ⊥) → operation.CanLower s x
+pub can_lower : (s : CountedSpace) (scopes x : ℕ) → IsSoundSpace s → CanUnname (counting_seen_in scopes s) x → (x % 2 ≡ 1 → ⊥) → operation.CanLower s x
 can_lower s scopes x sound can even =
     let v = sound.view in
     let h = sound.holds in
@@ -226,41 +226,41 @@ can_lower s scopes x sound can even =
     record { view = v; holds = h; place = i; named = can.counted (v.counted x) (seen_count v s x h i) }
 
 -- a sound space, in which a word stands now as another view says
-pub recounts : (v w : View) (s t : CountedSpace) (x : ℕ) → Holds v s → In x v.places → Holds w t → Tends s.memory t.memory x → t.free ≡ s.free → w.places ≡ v.places → w.sizes ≡ v.sizes → Recounts v w s t x
+pub recounts : (v w : View) (s t : CountedSpace) (x : ℕ) → HoldsBlocks v s → In x v.places → HoldsBlocks w t → Tends s.memory t.memory x → t.free ≡ s.free → w.places ≡ v.places → w.sizes ≡ v.sizes → Recounts v w s t x
 recounts v w s t x h i after tends free places sizes = record { before = h; place = i; after = after; tends = tends; free = free; places = places; sizes = sizes }
 
 pub record Seen (old new : CountedSpace) (change : HeapView → HeapView) : Type 0 where
   pub sound : IsSoundSpace new
-  pub seen : (scopes : ℕ) → seen_in scopes new ≡ change (seen_in scopes old)
+  pub seen : (scopes : ℕ) → counting_seen_in scopes new ≡ change (counting_seen_in scopes old)
 
-pub names : (s t : CountedSpace) (scopes x : ℕ) → IsSoundSpace s → CanName (seen_in scopes s) x → (x % 2 ≡ 1 → ⊥)
-    → ((v : View) → Holds v s → In x v.places → Holds (operation.raised v x) t) → Tends s.memory t.memory x → t.free ≡ s.free → Seen s t (λ h. cloned h x)
+pub names : (s t : CountedSpace) (scopes x : ℕ) → IsSoundSpace s → CanName (counting_seen_in scopes s) x → (x % 2 ≡ 1 → ⊥)
+    → ((v : View) → HoldsBlocks v s → In x v.places → HoldsBlocks (operation.counting_raised v x) t) → Tends s.memory t.memory x → t.free ≡ s.free → Seen s t (λ h. cloned h x)
 names s t scopes x sound can even holds tends free =
     let v = sound.view in
     let h = sound.holds in
     let i = held_place v s scopes x h (even_held s scopes x can.named even) in
-    let r = recounts v (operation.raised v x) s t x h i (holds v h i) tends free refl refl in
-    record { sound = sound_after v (operation.raised v x) s t x sound.unmarked refl r; seen = λ n. seen_raised v s t x n r }
+    let r = recounts v (operation.counting_raised v x) s t x h i (holds v h i) tends free refl refl in
+    record { sound = sound_after v (operation.counting_raised v x) s t x sound.unmarked refl r; seen = λ n. seen_raised v s t x n r }
 
-pub unnames : (s t : CountedSpace) (scopes x : ℕ) → IsSoundSpace s → CanUnname (seen_in scopes s) x → (x % 2 ≡ 1 → ⊥)
-    → ((v : View) → Holds v s → In x v.places → 0 < v.counted x → Holds (operation.lowered v x) t) → Tends s.memory t.memory x → t.free ≡ s.free → Seen s t (λ h. dropped h x)
+pub unnames : (s t : CountedSpace) (scopes x : ℕ) → IsSoundSpace s → CanUnname (counting_seen_in scopes s) x → (x % 2 ≡ 1 → ⊥)
+    → ((v : View) → HoldsBlocks v s → In x v.places → 0 < v.counted x → HoldsBlocks (operation.counting_lowered v x) t) → Tends s.memory t.memory x → t.free ≡ s.free → Seen s t (λ h. dropped h x)
 unnames s t scopes x sound can even holds tends free =
     let v = sound.view in
     let h = sound.holds in
     let i = held_place v s scopes x h (even_held s scopes x can.named even) in
     let named = can.counted (v.counted x) (seen_count v s x h i) in
-    let r = recounts v (operation.lowered v x) s t x h i (holds v h i named) tends free refl refl in
-    record { sound = sound_after v (operation.lowered v x) s t x sound.unmarked refl r; seen = λ n. seen_lowered v s t x n named r }
+    let r = recounts v (operation.counting_lowered v x) s t x h i (holds v h i named) tends free refl refl in
+    record { sound = sound_after v (operation.counting_lowered v x) s t x sound.unmarked refl r; seen = λ n. seen_lowered v s t x n named r }
 
-pub shows : (s t : CountedSpace) (scopes x : ℕ) → IsSoundSpace s → CanUnname (seen_in scopes s) x → (x % 2 ≡ 1 → ⊥)
-    → ((v : View) → Holds v s → In x v.places → 0 < v.counted x → Holds (operation.exposed v x) t) → Tends s.memory t.memory x → t.free ≡ s.free → Seen s t (λ h. exposed h x)
+pub shows : (s t : CountedSpace) (scopes x : ℕ) → IsSoundSpace s → CanUnname (counting_seen_in scopes s) x → (x % 2 ≡ 1 → ⊥)
+    → ((v : View) → HoldsBlocks v s → In x v.places → 0 < v.counted x → HoldsBlocks (operation.counting_exposed v x) t) → Tends s.memory t.memory x → t.free ≡ s.free → Seen s t (λ h. exposed h x)
 shows s t scopes x sound can even holds tends free =
     let v = sound.view in
     let h = sound.holds in
     let i = held_place v s scopes x h (even_held s scopes x can.named even) in
     let named = can.counted (v.counted x) (seen_count v s x h i) in
-    let r = recounts v (operation.exposed v x) s t x h i (holds v h i named) tends free refl refl in
-    record { sound = sound_after v (operation.exposed v x) s t x sound.unmarked refl r; seen = λ n. seen_exposed v s t x n r }
+    let r = recounts v (operation.counting_exposed v x) s t x h i (holds v h i named) tends free refl refl in
+    record { sound = sound_after v (operation.counting_exposed v x) s t x sound.unmarked refl r; seen = λ n. seen_exposed v s t x n r }
 
 -- what a test for a 31-bit number answers
 pub is_number : (b : Bool) (x : ℕ) → ((b ≡ true) ↔ (x % 2 ≡ 1)) → b ≡ true → x % 2 ≡ 1

@@ -5,9 +5,9 @@ use Rattle.std.proofs.lemmas.Bool.{cases_eq}
 use Rattle.gc_memory.specs.Lists.{occ}
 use Rattle.gc_memory.proofs.ListLemmas.{occ-same, In-occ, occ-In}
 use Rattle.gc_drc.specs.View.{View}
-use Rattle.gc_drc.specs.Graph.{Graph, Reached, by_root, by_frame, by_field}
+use Rattle.gc_drc.specs.Graph.{CountedGraph, CountingReached, by_root, by_frame, by_field}
 use Rattle.gc_drc.specs.Unheld.{Unheld, unheld}
-use Rattle.gc_drc.specs.CollectOps.{same, count_of, lowered, hidden, marked_also, unmarked, unqueued, freed}
+use Rattle.gc_drc.specs.CollectOps.{same, count_of, uncounted_or_queued, unshown, marked_also, unmarked, unqueued, freed}
 use Rattle.gc_drc.specs.CollectStates.{IsView, Cascading, MarkingFrames, SweepingShown, Draining, Drained}
 use Rattle.gc_drc.proofs.OccLemmas.{same-is, same-not, occ-cases, occ-without, names-at, holder}
 use Rattle.gc_drc.proofs.CascadeLemmas.{CanLower, lowered_is_view, cascading_can_lower, cascading_lowered, cascading_skipped, cascading_freed, unqueued_is_view, cascading_unqueued, freed_is_view, hidden_is_view, cascading_hidden}
@@ -31,7 +31,7 @@ marked_is_view v x is held fresh = record {
 }
 
 -- a frame slot's object is marked
-pub frame_marked : (g : Graph) (v : View) (x : ℕ) (left : List ℕ) → MarkingFrames g v (x ∷ left) → 0 < occ x g.frames → MarkingFrames g (marked_also v x) left
+pub frame_marked : (g : CountedGraph) (v : View) (x : ℕ) (left : List ℕ) → MarkingFrames g v (x ∷ left) → 0 < occ x g.frames → MarkingFrames g (marked_also v x) left
 frame_marked g v x left m frame = record {
   only = λ y h. elim (cases_eq y x) [
     | inl e ↦ let at : occ y g.frames ≡ occ x g.frames = ap (λ n. occ n g.frames) e in omega arith
@@ -44,7 +44,7 @@ frame_marked g v x left m frame = record {
 }
 
 -- a frame slot's object had been marked, or the slot names none
-pub frame_passed : (g : Graph) (v : View) (x : ℕ) (left : List ℕ) → MarkingFrames g v (x ∷ left) → (occ x g.places ≡ 0) ⊎ (0 < occ x v.marked) → MarkingFrames g v left
+pub frame_passed : (g : CountedGraph) (v : View) (x : ℕ) (left : List ℕ) → MarkingFrames g v (x ∷ left) → (occ x g.places ≡ 0) ⊎ (0 < occ x v.marked) → MarkingFrames g v left
 frame_passed g v x left m why = record {
   only = m.only;
   all = λ y p f. elim (m.all y p f) [
@@ -62,7 +62,7 @@ frame_passed g v x left m why = record {
 -- SWEEPING THE LIST
 
 -- the frame slots are marked, and nothing else
-pub sweep_begins : (g : Graph) (v : View) → IsView v → Cascading g v [] → MarkingFrames g v [] → SweepingShown g v [] v.shown
+pub sweep_begins : (g : CountedGraph) (v : View) → IsView v → Cascading g v [] → MarkingFrames g v [] → SweepingShown g v [] v.shown
 sweep_begins g v is c m = record {
   is_view = is;
   cascading = c;
@@ -85,7 +85,7 @@ sweep_begins g v is c m = record {
 }
 
 -- a marked object is kept on the list, and its mark is cleared
-pub sweep_keeps : (g : Graph) (v : View) (x : ℕ) (kept left : List ℕ) → SweepingShown g v kept (x ∷ left) → 0 < occ x v.marked → SweepingShown g (unmarked v x) (x ∷ kept) left
+pub sweep_keeps : (g : CountedGraph) (v : View) (x : ℕ) (kept left : List ℕ) → SweepingShown g v kept (x ∷ left) → 0 < occ x v.marked → SweepingShown g (unmarked v x) (x ∷ kept) left
 sweep_keeps g v x kept left s is_marked = record {
   is_view = record {
     once = s.is_view.once;
@@ -121,34 +121,34 @@ sweep_keeps g v x kept left s is_marked = record {
 }
 
 -- an unmarked object is no frame slot's
-unmarked_no_frame : (g : Graph) (v : View) (x : ℕ) (kept left : List ℕ) → SweepingShown g v kept (x ∷ left) → occ x v.marked ≡ 0 → occ x g.frames ≡ 0
+unmarked_no_frame : (g : CountedGraph) (v : View) (x : ℕ) (kept left : List ℕ) → SweepingShown g v kept (x ∷ left) → occ x v.marked ≡ 0 → occ x g.frames ≡ 0
 unmarked_no_frame g v x kept left s none = elim (occ-cases x g.frames) [
   | inl no_frame ↦ no_frame
   | inr frame ↦ absurd (let m = s.frames_marked x (let one = occ-same x left in omega arith) frame in omega arith)
 ]
 
-swept_shown : (g : Graph) (v : View) (x : ℕ) (kept left : List ℕ) → SweepingShown g v kept (x ∷ left) → 0 < occ x v.shown
+swept_shown : (g : CountedGraph) (v : View) (x : ℕ) (kept left : List ℕ) → SweepingShown g v kept (x ∷ left) → 0 < occ x v.shown
 swept_shown g v x kept left s = let p = s.parts x in let one = occ-same x left in omega arith
 
 -- an unmarked object is taken off the list, and its share of the count is lowered
-pub sweep_can_lower : (g : Graph) (v : View) (x : ℕ) (kept left : List ℕ) → SweepingShown g v kept (x ∷ left) → occ x v.marked ≡ 0 → CanLower (hidden v x) x
+pub sweep_can_lower : (g : CountedGraph) (v : View) (x : ℕ) (kept left : List ℕ) → SweepingShown g v kept (x ∷ left) → occ x v.marked ≡ 0 → CanLower (unshown v x) x
 sweep_can_lower g v x kept left s none =
     let on_list = swept_shown g v x kept left s in
     let is = hidden_is_view v x s.is_view on_list in
     let c = cascading_hidden g v x [] s.is_view s.cascading on_list (unmarked_no_frame g v x kept left s none) in
     let from = s.cascading.from x in
     let held = s.is_view.shown x in
-    cascading_can_lower g (hidden v x) x [] is c (omega arith)
+    cascading_can_lower g (unshown v x) x [] is c (omega arith)
 
-pub sweep_lowers : (g : Graph) (v : View) (x : ℕ) (kept left : List ℕ) → SweepingShown g v kept (x ∷ left) → occ x v.marked ≡ 0
-    → SweepingShown g (lowered (hidden v x) x) kept left
+pub sweep_lowers : (g : CountedGraph) (v : View) (x : ℕ) (kept left : List ℕ) → SweepingShown g v kept (x ∷ left) → occ x v.marked ≡ 0
+    → SweepingShown g (uncounted_or_queued (unshown v x) x) kept left
 sweep_lowers g v x kept left s none =
     let on_list = swept_shown g v x kept left s in
     let no_frame = unmarked_no_frame g v x kept left s none in
     let c = cascading_hidden g v x [] s.is_view s.cascading on_list no_frame in
     record {
-      is_view = lowered_is_view (hidden v x) x (sweep_can_lower g v x kept left s none);
-      cascading = cascading_lowered g (hidden v x) x [] c;
+      is_view = lowered_is_view (unshown v x) x (sweep_can_lower g v x kept left s none);
+      cascading = cascading_lowered g (unshown v x) x [] c;
       parts = λ y.
           let w = occ-without x y v.shown on_list in
           let p : occ y v.shown ≡ occ y kept + (same y x + occ y left) = s.parts y in
@@ -163,7 +163,7 @@ sweep_lowers g v x kept left s none =
     }
 
 -- the list is swept
-pub sweep_ends : (g : Graph) (v : View) (kept : List ℕ) → SweepingShown g v kept [] → Draining g v []
+pub sweep_ends : (g : CountedGraph) (v : View) (kept : List ℕ) → SweepingShown g v kept [] → Draining g v []
 sweep_ends g v kept s = record {
   is_view = s.is_view;
   cascading = s.cascading;
@@ -174,7 +174,7 @@ sweep_ends g v kept s = record {
 -- FREEING WHAT IS QUEUED
 
 -- an object that has a name or is shown leaves the queue
-pub drain_leaves : (g : Graph) (v : View) (x : ℕ) → Draining g v [] → 0 < occ x v.queue → 1 < count_of v x → Draining g (unqueued v x) []
+pub drain_leaves : (g : CountedGraph) (v : View) (x : ℕ) → Draining g v [] → 0 < occ x v.queue → 1 < count_of v x → Draining g (unqueued v x) []
 drain_leaves g v x d queued more = record {
   is_view = unqueued_is_view v x d.is_view queued more;
   cascading = cascading_unqueued g v x [] d.cascading;
@@ -183,7 +183,7 @@ drain_leaves g v x d queued more = record {
 }
 
 -- another one is freed, and what it names is to be lowered
-pub drain_frees : (g : Graph) (v : View) (x : ℕ) → Draining g v [] → 0 < occ x v.queue → count_of v x ≡ 1 → Draining g (freed (unqueued v x) x) (g.words x)
+pub drain_frees : (g : CountedGraph) (v : View) (x : ℕ) → Draining g v [] → 0 < occ x v.queue → count_of v x ≡ 1 → Draining g (freed (unqueued v x) x) (g.words x)
 drain_frees g v x d queued alone =
     let q = d.is_view.queue x in
     let is = freed_is_view v x d.is_view queued alone (d.none_marked x) in
@@ -199,10 +199,10 @@ drain_frees g v x d queued alone =
       none_marked = d.none_marked;
     }
 
-pub drain_can_lower : (g : Graph) (v : View) (x : ℕ) (pending : List ℕ) → Draining g v (x ∷ pending) → 0 < occ x g.places → CanLower v x
+pub drain_can_lower : (g : CountedGraph) (v : View) (x : ℕ) (pending : List ℕ) → Draining g v (x ∷ pending) → 0 < occ x g.places → CanLower v x
 drain_can_lower g v x pending d h = cascading_can_lower g v x pending d.is_view d.cascading h
 
-pub drain_lowers : (g : Graph) (v : View) (x : ℕ) (pending : List ℕ) → Draining g v (x ∷ pending) → 0 < occ x g.places → Draining g (lowered v x) pending
+pub drain_lowers : (g : CountedGraph) (v : View) (x : ℕ) (pending : List ℕ) → Draining g v (x ∷ pending) → 0 < occ x g.places → Draining g (uncounted_or_queued v x) pending
 drain_lowers g v x pending d h = record {
   is_view = lowered_is_view v x (drain_can_lower g v x pending d h);
   cascading = cascading_lowered g v x pending d.cascading;
@@ -210,7 +210,7 @@ drain_lowers g v x pending d h = record {
   none_marked = d.none_marked;
 }
 
-pub drain_skips : (g : Graph) (v : View) (x : ℕ) (pending : List ℕ) → Draining g v (x ∷ pending) → occ x g.places ≡ 0 → Draining g v pending
+pub drain_skips : (g : CountedGraph) (v : View) (x : ℕ) (pending : List ℕ) → Draining g v (x ∷ pending) → occ x g.places ≡ 0 → Draining g v pending
 drain_skips g v x pending d h = record {
   is_view = d.is_view;
   cascading = cascading_skipped g v x pending d.cascading h;
@@ -221,7 +221,7 @@ drain_skips g v x pending d h = record {
 -- WHAT WAS FREED
 
 -- what is kept isn't unheld
-pub kept_not_unheld : (g : Graph) (v : View) → Drained g v → (p : ℕ) → Unheld g p → 0 < occ p v.places → ⊥
+pub kept_not_unheld : (g : CountedGraph) (v : View) → Drained g v → (p : ℕ) → Unheld g p → 0 < occ p v.places → ⊥
 kept_not_unheld g v d p (unheld i no_root no_frame holders) held =
     let c = d.draining.cascading in
     let counts = c.counts p (In-occ p g.places i) in
@@ -239,7 +239,7 @@ kept_not_unheld g v d p (unheld i no_root no_frame holders) held =
     (holders held_name.at (occ-In held_name.at g.places (omega arith)) (occ-In p (g.words held_name.at) held_name.names_it)) some
 
 -- what the roots reach is kept
-pub reached_kept : (g : Graph) (v : View) → Drained g v → (p : ℕ) → Reached g p → 0 < occ p v.places
+pub reached_kept : (g : CountedGraph) (v : View) → Drained g v → (p : ℕ) → CountingReached g p → 0 < occ p v.places
 reached_kept g v d p (by_root i r) =
     let place = In-occ p g.places i in
     let root = In-occ p g.roots r in

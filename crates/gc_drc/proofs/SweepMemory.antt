@@ -11,12 +11,12 @@ use Rattle.gc_memory.proofs.ListLemmas.{In-occ, occ-In, occ-same, sum_over-same}
 use Rattle.gc_drc.specs.declared.space.CountedSpace.{CountedSpace}
 use Rattle.gc_drc.specs.View.{View, Linked}
 use Rattle.gc_drc.specs.SpaceLaws.{places_are}
-use Rattle.gc_drc.specs.CollectOps.{same, without_one, lowered, hidden, marked_also, unmarked}
+use Rattle.gc_drc.specs.CollectOps.{same, without_one, uncounted_or_queued, unshown, marked_also, unmarked}
 use Rattle.gc_drc.specs.CollectLists.{onto, front}
 use Rattle.gc_drc.specs.CollectStates.{IsView, Cascading}
 use Rattle.gc_drc.specs.CollectMemory.{Context, At, CanMark, CanUnmark, CanHide, CanLowerAt}
-use Rattle.gc_drc.specs.CollectDrain.{IsPlaceWord}
-use Rattle.gc_drc.specs.CollectSweep.{FrameMarks, CanMarkFrame, Sweep, CanSweepOne, SweptOne, sweep_left}
+use Rattle.gc_drc.specs.CollectDrain.{IsCountingPlace}
+use Rattle.gc_drc.specs.CollectSweep.{FrameMarks, CanMarkFrame, Sweep, CanSweepShown, SweptOne, sweep_left}
 use Rattle.gc_drc.proofs.OccLemmas.{same-is, same-not, occ-without}
 use Rattle.gc_drc.proofs.SweepLemmas.{marked_is_view, frame_marked, frame_passed, sweep_begins, sweep_keeps, sweep_can_lower, sweep_lowers}
 use Rattle.gc_drc.proofs.LinkLemmas.{linked_first, linked_behind, without_onto, occ-onto}
@@ -33,10 +33,10 @@ frame_held c v w is cascading frame place =
     let held = is.shown w in
     occ-In w v.places (omega arith)
 
-marks_held : (c : Context) (s : CountedSpace) (w : ℕ) (left : List ℕ) (m : FrameMarks c s (w ∷ left)) → IsPlaceWord w → In w m.view.places
+marks_held : (c : Context) (s : CountedSpace) (w : ℕ) (left : List ℕ) (m : FrameMarks c s (w ∷ left)) → IsCountingPlace w → In w m.view.places
 marks_held c s w left m is = frame_held c m.view w m.is_view m.cascading (m.part w here) (place_in c w (m.at.start.frames w (m.part w here)) is)
 
-pub frame_room : (s : CountedSpace) (w : ℕ) → CanMarkFrame s w → IsPlaceWord w → w + 28 ≤ length s.memory
+pub frame_room : (s : CountedSpace) (w : ℕ) → CanMarkFrame s w → IsCountingPlace w → w + 28 ≤ length s.memory
 frame_room s w can is = room_at can.context can.marks.view s w can.marks.at (marks_held can.context s w can.left can.marks is)
 
 -- the mark of an object, as it is read
@@ -75,13 +75,13 @@ marked_read c v s x b at i read is =
     let one_bit = marked_true (word s.memory x % 2) (sym read ∙ is) in
     omega arith
 
-pub frame_can : (s : CountedSpace) (w : ℕ) (b : Bool) → CanMarkFrame s w → IsPlaceWord w → b ≡ nat_eq (word s.memory w % 2) 1 → b ≡ false → CanMark s w
+pub frame_can : (s : CountedSpace) (w : ℕ) (b : Bool) → CanMarkFrame s w → IsCountingPlace w → b ≡ nat_eq (word s.memory w % 2) 1 → b ≡ false → CanMark s w
 frame_can s w b can is read fresh =
     let m = can.marks in
     let held = marks_held can.context s w can.left m is in
     record { context = can.context; view = m.view; at = m.at; held = held; fresh = fresh_read can.context m.view s w b m.at held read fresh }
 
-pub frame_marks : (c : Context) (s s' : CountedSpace) (w : ℕ) (left : List ℕ) (b : Bool) → FrameMarks c s (w ∷ left) → IsPlaceWord w → b ≡ nat_eq (word s.memory w % 2) 1 → b ≡ false
+pub frame_marks : (c : Context) (s s' : CountedSpace) (w : ℕ) (left : List ℕ) (b : Bool) → FrameMarks c s (w ∷ left) → IsCountingPlace w → b ≡ nat_eq (word s.memory w % 2) 1 → b ≡ false
     → ((o : Context) (v : View) → At o v s → In w v.places → occ w v.marked ≡ 0 → At o (marked_also v w) s') → FrameMarks c s' left
 frame_marks c s s' w left b m is read fresh marks =
     let held = marks_held c s w left m is in
@@ -96,7 +96,7 @@ frame_marks c s s' w left b m is read fresh marks =
       all_held = m.all_held;
     }
 
-pub frame_passes : (c : Context) (s : CountedSpace) (w : ℕ) (left : List ℕ) (b : Bool) → FrameMarks c s (w ∷ left) → IsPlaceWord w → b ≡ nat_eq (word s.memory w % 2) 1 → b ≡ true → FrameMarks c s left
+pub frame_passes : (c : Context) (s : CountedSpace) (w : ℕ) (left : List ℕ) (b : Bool) → FrameMarks c s (w ∷ left) → IsCountingPlace w → b ≡ nat_eq (word s.memory w % 2) 1 → b ≡ true → FrameMarks c s left
 frame_passes c s w left b m is read on =
     let held = marks_held c s w left m is in
     record {
@@ -109,7 +109,7 @@ frame_passes c s w left b m is read on =
       all_held = m.all_held;
     }
 
-pub frame_skips : (c : Context) (s : CountedSpace) (w : ℕ) (left : List ℕ) → FrameMarks c s (w ∷ left) → (IsPlaceWord w → ⊥) → FrameMarks c s left
+pub frame_skips : (c : Context) (s : CountedSpace) (w : ℕ) (left : List ℕ) → FrameMarks c s (w ∷ left) → (IsCountingPlace w → ⊥) → FrameMarks c s left
 frame_skips c s w left m isnt = record {
   view = m.view;
   at = m.at;
@@ -148,10 +148,10 @@ sweep_held c s x kept left w =
     let one = occ-same x left in
     w.at.holds.shown_part.inside x (occ-In x w.view.shown (omega arith))
 
-pub sweep_room : (s : CountedSpace) (before x : ℕ) → CanSweepOne s before x → x + 28 ≤ length s.memory
+pub sweep_room : (s : CountedSpace) (before x : ℕ) → CanSweepShown s before x → x + 28 ≤ length s.memory
 sweep_room s before x can = room_at can.context can.sweep.view s x can.sweep.at (sweep_held can.context s x can.kept can.left can.sweep)
 
-pub sweep_can_unmark : (s : CountedSpace) (before x : ℕ) (b : Bool) → CanSweepOne s before x → b ≡ nat_eq (word s.memory x % 2) 1 → b ≡ true → CanUnmark s x
+pub sweep_can_unmark : (s : CountedSpace) (before x : ℕ) (b : Bool) → CanSweepShown s before x → b ≡ nat_eq (word s.memory x % 2) 1 → b ≡ true → CanUnmark s x
 sweep_can_unmark s before x b can read on =
     let w = can.sweep in
     record { context = can.context; view = w.view; at = w.at; is_marked = marked_read can.context w.view s x b w.at (sweep_held can.context s x can.kept can.left w) read on }
@@ -171,7 +171,7 @@ swept_kept c s s' x kept left b w read on clears =
       is_before = refl;
     }
 
-pub sweep_can_hide : (s : CountedSpace) (before x : ℕ) → CanSweepOne s before x → CanHide s before x
+pub sweep_can_hide : (s : CountedSpace) (before x : ℕ) → CanSweepShown s before x → CanHide s before x
 sweep_can_hide s before x can = record {
   context = can.context;
   view = can.sweep.view;
@@ -183,19 +183,19 @@ sweep_can_hide s before x can = record {
 }
 
 -- what an object that was taken off the list is
-pub hidden_can_lower : (s s1 : CountedSpace) (before x : ℕ) (b : Bool) → CanSweepOne s before x → b ≡ nat_eq (word s.memory x % 2) 1 → b ≡ false
-    → ((o : Context) (v : View) (kept left : List ℕ) → At o v s → v.shown ≡ onto kept (x ∷ left) → front kept ≡ before → At o (hidden v x) s1) → CanLowerAt s1 x
+pub hidden_can_lower : (s s1 : CountedSpace) (before x : ℕ) (b : Bool) → CanSweepShown s before x → b ≡ nat_eq (word s.memory x % 2) 1 → b ≡ false
+    → ((o : Context) (v : View) (kept left : List ℕ) → At o v s → v.shown ≡ onto kept (x ∷ left) → front kept ≡ before → At o (unshown v x) s1) → CanLowerAt s1 x
 hidden_can_lower s s1 before x b can read fresh hides =
     let c = can.context in
     let w = can.sweep in
     let held = sweep_held c s x can.kept can.left w in
     let none = fresh_read c w.view s x b w.at held read fresh in
     let lower = sweep_can_lower c.graph w.view x can.kept can.left w.sweeping none in
-    record { context = c; view = hidden w.view x; at = hides c w.view can.kept can.left w.at w.list can.is_before; held = held; named = lower.named }
+    record { context = c; view = unshown w.view x; at = hides c w.view can.kept can.left w.at w.list can.is_before; held = held; named = lower.named }
 
 pub swept_off : (c : Context) (s s1 s2 : CountedSpace) (before x : ℕ) (kept left : List ℕ) (b : Bool) → Sweep c s kept (x ∷ left) → front kept ≡ before → b ≡ nat_eq (word s.memory x % 2) 1 → b ≡ false
-    → ((o : Context) (v : View) (ks ls : List ℕ) → At o v s → v.shown ≡ onto ks (x ∷ ls) → front ks ≡ before → At o (hidden v x) s1)
-    → ((o : Context) (v : View) → At o v s1 → In x v.places → 0 < v.counted x → At o (lowered v x) s2) → SweptOne c s2 left before
+    → ((o : Context) (v : View) (ks ls : List ℕ) → At o v s → v.shown ≡ onto ks (x ∷ ls) → front ks ≡ before → At o (unshown v x) s1)
+    → ((o : Context) (v : View) → At o v s1 → In x v.places → 0 < v.counted x → At o (uncounted_or_queued v x) s2) → SweptOne c s2 left before
 swept_off c s s1 s2 before x kept left b w is_before read fresh hides takes =
     let held = sweep_held c s x kept left w in
     let none = fresh_read c w.view s x b w.at held read fresh in
@@ -206,8 +206,8 @@ swept_off c s s1 s2 before x kept left b w is_before read fresh hides takes =
     record {
       kept = kept;
       sweep = record {
-        view = lowered (hidden w.view x) x;
-        at = takes c (hidden w.view x) (hides c w.view kept left w.at w.list is_before) held lower.named;
+        view = uncounted_or_queued (unshown w.view x) x;
+        at = takes c (unshown w.view x) (hides c w.view kept left w.at w.list is_before) held lower.named;
         sweeping = sweep_lowers c.graph w.view x kept left w.sweeping none;
         list = ap (without_one x) w.list ∙ without_onto x kept left (omega arith);
         all_held = w.all_held;
@@ -254,7 +254,7 @@ sweep_left_is c v s at =
 once_in : (c : Context) (v : View) (s : CountedSpace) (x : ℕ) → At c v s → In x v.places → occ x v.places ≡ 1
 once_in c v s x at i = let once = places_once v s at.holds x in let some = In-occ x v.places i in omega arith
 
-pub less_kept : (s s' : CountedSpace) (before x : ℕ) (b : Bool) → CanSweepOne s before x → b ≡ nat_eq (word s.memory x % 2) 1 → b ≡ true
+pub less_kept : (s s' : CountedSpace) (before x : ℕ) (b : Bool) → CanSweepShown s before x → b ≡ nat_eq (word s.memory x % 2) 1 → b ≡ true
     → ((o : Context) (v : View) → At o v s → 0 < occ x v.marked → At o (unmarked v x) s') → sweep_left s' < sweep_left s
 less_kept s s' before x b can read on clears =
     let c = can.context in
@@ -269,9 +269,9 @@ less_kept s s' before x b can read on clears =
     let one : same x x ≡ 1 = same-is x x refl in
     omega (arith, sweep_left_is c v s w.at, sweep_left_is c (unmarked v x) s' at', e)
 
-pub less_off : (s s1 s2 : CountedSpace) (before x : ℕ) (b : Bool) → CanSweepOne s before x → b ≡ nat_eq (word s.memory x % 2) 1 → b ≡ false
-    → ((o : Context) (v : View) (ks ls : List ℕ) → At o v s → v.shown ≡ onto ks (x ∷ ls) → front ks ≡ before → At o (hidden v x) s1)
-    → ((o : Context) (v : View) → At o v s1 → In x v.places → 0 < v.counted x → At o (lowered v x) s2) → sweep_left s2 < sweep_left s
+pub less_off : (s s1 s2 : CountedSpace) (before x : ℕ) (b : Bool) → CanSweepShown s before x → b ≡ nat_eq (word s.memory x % 2) 1 → b ≡ false
+    → ((o : Context) (v : View) (ks ls : List ℕ) → At o v s → v.shown ≡ onto ks (x ∷ ls) → front ks ≡ before → At o (unshown v x) s1)
+    → ((o : Context) (v : View) → At o v s1 → In x v.places → 0 < v.counted x → At o (uncounted_or_queued v x) s2) → sweep_left s2 < sweep_left s
 less_off s s1 s2 before x b can read fresh hides takes =
     let c = can.context in
     let w = can.sweep in
@@ -279,7 +279,7 @@ less_off s s1 s2 before x b can read fresh hides takes =
     let held = sweep_held c s x can.kept can.left w in
     let none = fresh_read c v s x b w.at held read fresh in
     let lower = sweep_can_lower c.graph v x can.kept can.left w.sweeping none in
-    let at' = takes c (hidden v x) (hides c v can.kept can.left w.at w.list can.is_before) held lower.named in
+    let at' = takes c (unshown v x) (hides c v can.kept can.left w.at w.list can.is_before) held lower.named in
     let times : occ x v.shown ≡ occ x can.kept + occ x (x ∷ can.left) = ap (λ (xs : List ℕ). occ x xs) w.list ∙ occ-onto x can.kept (x ∷ can.left) in
     let one_left = occ-same x can.left in
     let on_list : 0 < occ x v.shown = omega arith in
@@ -287,7 +287,7 @@ less_off s s1 s2 before x b can read fresh hides takes =
     (λ p i ne. let wp = occ-without x p v.shown on_list in let other : same p x ≡ 0 = same-not p x ne in omega arith) in
     let wx = occ-without x x v.shown on_list in
     let one : same x x ≡ 1 = same-is x x refl in
-    omega (arith, sweep_left_is c v s w.at, sweep_left_is c (lowered (hidden v x) x) s2 at', e)
+    omega (arith, sweep_left_is c v s w.at, sweep_left_is c (uncounted_or_queued (unshown v x) x) s2 at', e)
 
 -- THE LOOP
 
@@ -311,7 +311,7 @@ split : (left : List ℕ) (place : ℕ) → front left ≡ place → (place ≡ 
 split [] place e ne = elim (ne (sym e)) [ ]
 split (x ∷ rest) place e ne = (rest, ap (λ (y : ℕ). y ∷ rest) e)
 
-pub sweeps_can : (s s' : CountedSpace) (before place : ℕ) → Sweeps s s' before place → (c : Context) → FrameMarks c s [] → (place ≡ 0 → ⊥) → CanSweepOne s' before place
+pub sweeps_can : (s s' : CountedSpace) (before place : ℕ) → Sweeps s s' before place → (c : Context) → FrameMarks c s [] → (place ≡ 0 → ⊥) → CanSweepShown s' before place
 sweeps_can s s' before place sweeps c m ne =
     let t = sweeps c m in
     let p = split t.left place t.is_place ne in

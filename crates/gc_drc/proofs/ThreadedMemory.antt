@@ -3,11 +3,11 @@ use Rattle.std.proofs.Common.{ℕ, refl, ap, [], arith}
 use Rattle.gc_view.specs.Heaps.{Counts, detached_in}
 use Rattle.gc_drc.specs.declared.space.CountedSpace.{CountedSpace}
 use Rattle.gc_drc.specs.View as view
-use Rattle.gc_drc.specs.Content.{seen_in, IsSoundSpace}
+use Rattle.gc_drc.specs.Content.{counting_seen_in, IsSoundSpace}
 use Rattle.gc_drc.proofs.CountsSeen.{counts_are}
 use Rattle.gc_drc.specs.ThreadedLists.{ThreadsLists}
 
-pub threads_lists : (s : CountedSpace) (scopes : ℕ) → IsSoundSpace s → ThreadsLists (seen_in scopes s) s.memory
+pub threads_lists : (s : CountedSpace) (scopes : ℕ) → IsSoundSpace s → ThreadsLists (counting_seen_in scopes s) s.memory
 threads_lists s scopes sound = record {
   shown = record {
     list = sound.view.shown;

@@ -5,7 +5,7 @@ use Rattle.std.proofs.lemmas.Bool.{cases_eq}
 use Rattle.gc_memory.specs.Lists.{occ}
 use Rattle.gc_memory.proofs.ListLemmas.{occ-same, In-occ, occ-In}
 use Rattle.gc_drc.specs.View.{View}
-use Rattle.gc_drc.specs.Graph.{Graph, names, Reached, by_root, by_frame, by_field}
+use Rattle.gc_drc.specs.Graph.{CountedGraph, names, CountingReached, by_root, by_frame, by_field}
 use Rattle.gc_drc.specs.CollectOps.{same, count_of, uncounted, marked_also, unmarked, freed}
 use Rattle.gc_drc.specs.CollectStates.{IsView, Cascading, Tracing, Marked, Freeing, Done}
 use Rattle.gc_drc.proofs.OccLemmas.{same-is, same-not, occ-cases, occ-without, names-at, names-without}
@@ -13,7 +13,7 @@ use Rattle.gc_drc.proofs.OccLemmas.{same-is, same-not, occ-cases, occ-without, n
 -- MARKING
 
 -- the words of the roots are to be looked at, in any order
-pub trace_begins : (g : Graph) (v : View) (pending : List ℕ) → ((x : ℕ) → occ x pending ≡ occ x g.roots + occ x g.frames) → ((x : ℕ) → occ x v.marked ≡ 0) → Tracing g v pending []
+pub trace_begins : (g : CountedGraph) (v : View) (pending : List ℕ) → ((x : ℕ) → occ x pending ≡ occ x g.roots + occ x g.frames) → ((x : ℕ) → occ x v.marked ≡ 0) → Tracing g v pending []
 trace_begins g v pending all none = record {
   marked_reached = λ x h. absurd (let z = none x in omega arith);
   pending_reached = λ x p h. elim (occ-cases x g.roots) [
@@ -34,13 +34,13 @@ marked_or v x y pending (inr h) = elim (cases_eq y x) [
 ]
 
 -- an object that a word names is marked, and is to be scanned
-pub trace_marks : (g : Graph) (v : View) (x : ℕ) (pending work : List ℕ) → Tracing g v (x ∷ pending) work → 0 < occ x g.places → Tracing g (marked_also v x) pending (x ∷ work)
+pub trace_marks : (g : CountedGraph) (v : View) (x : ℕ) (pending work : List ℕ) → Tracing g v (x ∷ pending) work → 0 < occ x g.places → Tracing g (marked_also v x) pending (x ∷ work)
 trace_marks g v x pending work t place =
     let one = occ-same x pending in
-    let reached : Reached g x = t.pending_reached x place (omega arith) in
+    let reached : CountingReached g x = t.pending_reached x place (omega arith) in
     record {
       marked_reached = λ y h. elim (cases_eq y x) [
-        | inl e ↦ subst (λ (z : ℕ). Reached g z) (sym e) reached
+        | inl e ↦ subst (λ (z : ℕ). CountingReached g z) (sym e) reached
         | inr ne ↦ t.marked_reached y (let z = same-not y x ne in omega arith)
       ];
       pending_reached = λ y p h. t.pending_reached y p (omega arith);
@@ -56,7 +56,7 @@ trace_marks g v x pending work t place =
       ];
     }
 
-passed_or : (g : Graph) (v : View) (x y : ℕ) (pending : List ℕ) → (occ x g.places ≡ 0) ⊎ (0 < occ x v.marked) → 0 < occ y g.places
+passed_or : (g : CountedGraph) (v : View) (x y : ℕ) (pending : List ℕ) → (occ x g.places ≡ 0) ⊎ (0 < occ x v.marked) → 0 < occ y g.places
     → (0 < occ y v.marked) ⊎ (0 < occ y (x ∷ pending)) → (0 < occ y v.marked) ⊎ (0 < occ y pending)
 passed_or g v x y pending why place (inl h) = inl h
 passed_or g v x y pending why place (inr h) = elim (cases_eq y x) [
@@ -68,7 +68,7 @@ passed_or g v x y pending why place (inr h) = elim (cases_eq y x) [
 ]
 
 -- a word names no object, or one that is marked
-pub trace_passes : (g : Graph) (v : View) (x : ℕ) (pending work : List ℕ) → Tracing g v (x ∷ pending) work → (occ x g.places ≡ 0) ⊎ (0 < occ x v.marked) → Tracing g v pending work
+pub trace_passes : (g : CountedGraph) (v : View) (x : ℕ) (pending work : List ℕ) → Tracing g v (x ∷ pending) work → (occ x g.places ≡ 0) ⊎ (0 < occ x v.marked) → Tracing g v pending work
 trace_passes g v x pending work t why = record {
   marked_reached = t.marked_reached;
   pending_reached = λ y p h. t.pending_reached y p (omega arith);
@@ -82,11 +82,11 @@ trace_passes g v x pending work t why = record {
 }
 
 -- a marked object is scanned next
-pub trace_scans : (g : Graph) (v : View) (x : ℕ) (work : List ℕ) → Tracing g v [] (x ∷ work) → Tracing g v (g.words x) work
+pub trace_scans : (g : CountedGraph) (v : View) (x : ℕ) (work : List ℕ) → Tracing g v [] (x ∷ work) → Tracing g v (g.words x) work
 trace_scans g v x work t =
     let one = occ-same x work in
     let waits : occ x (x ∷ work) ≤ occ x v.marked = t.waiting x in
-    let reached : Reached g x = t.marked_reached x (omega arith) in
+    let reached : CountingReached g x = t.marked_reached x (omega arith) in
     record {
       marked_reached = t.marked_reached;
       pending_reached = λ y p h. by_field (occ-In y g.places p) reached (occ-In y (g.words x) h);
@@ -103,7 +103,7 @@ trace_scans g v x work t =
       ];
     }
 
-all_marked : (g : Graph) (v : View) → Tracing g v [] [] → (x : ℕ) → Reached g x → 0 < occ x v.marked
+all_marked : (g : CountedGraph) (v : View) → Tracing g v [] [] → (x : ℕ) → CountingReached g x → 0 < occ x v.marked
 all_marked g v t x (by_root i r) = elim (t.roots x (In-occ x g.places i) (In-occ x g.roots r)) [ inl m ↦ m | inr none ↦ absurd (omega arith) ]
 all_marked g v t x (by_frame i f) = elim (t.frames x (In-occ x g.places i) (In-occ x g.frames f)) [ inl m ↦ m | inr none ↦ absurd (omega arith) ]
 all_marked g v t x (by_field {from = q} i r w) =
@@ -114,13 +114,13 @@ all_marked g v t x (by_field {from = q} i r w) =
     ]
 
 -- nothing is left to look at
-pub trace_ends : (g : Graph) (v : View) → Tracing g v [] [] → Marked g v
+pub trace_ends : (g : CountedGraph) (v : View) → Tracing g v [] [] → Marked g v
 trace_ends g v t = record { only = t.marked_reached; all = all_marked g v t }
 
 -- FREEING THE REST
 
 -- what was drained, with marks now
-pub freeing_begins : (g : Graph) (v : View) → IsView v → Cascading g v [] → ((x : ℕ) → 0 < occ x v.shown → 0 < occ x g.frames) → ((x : ℕ) → occ x v.queue ≡ 0)
+pub freeing_begins : (g : CountedGraph) (v : View) → IsView v → Cascading g v [] → ((x : ℕ) → 0 < occ x v.shown → 0 < occ x g.frames) → ((x : ℕ) → occ x v.queue ≡ 0)
     → Marked g v → Freeing g v []
 freeing_begins g v is c only none m = record {
   is_view = is;
@@ -133,7 +133,7 @@ freeing_begins g v is c only none m = record {
 }
 
 -- a marked object has a name of its own beside those that are to be lowered, or is shown
-still_named : (g : Graph) (v : View) (pending : List ℕ) (x : ℕ) → Freeing g v pending → Reached g x → 0 < names g v.places x + occ x g.roots + occ x v.shown
+still_named : (g : CountedGraph) (v : View) (pending : List ℕ) (x : ℕ) → Freeing g v pending → CountingReached g x → 0 < names g v.places x + occ x g.roots + occ x v.shown
 still_named g v pending x f (by_root i r) = let root = In-occ x g.roots r in omega arith
 still_named g v pending x f (by_frame i s) = let on_list = f.frames_shown x (In-occ x g.places i) (In-occ x g.frames s) in omega arith
 still_named g v pending x f (by_field {from = q} i r w) =
@@ -150,7 +150,7 @@ pub record CanUncount (v : View) (x : ℕ) : Type 0 where
   pub named : 0 < v.counted x
   pub more : 1 < count_of v x
 
-pub freeing_can_uncount : (g : Graph) (v : View) (x : ℕ) (pending : List ℕ) → Freeing g v (x ∷ pending) → 0 < occ x v.marked → CanUncount v x
+pub freeing_can_uncount : (g : CountedGraph) (v : View) (x : ℕ) (pending : List ℕ) → Freeing g v (x ∷ pending) → 0 < occ x v.marked → CanUncount v x
 freeing_can_uncount g v x pending f m =
     let held = f.is_view.marked x in
     let counts = f.counts x m in
@@ -158,7 +158,7 @@ freeing_can_uncount g v x pending f m =
     let still = still_named g v (x ∷ pending) x f (f.is_marked.only x m) in
     record { is_view = f.is_view; held = omega arith; named = omega arith; more = omega arith }
 
-pub freeing_uncounts : (g : Graph) (v : View) (x : ℕ) (pending : List ℕ) → Freeing g v (x ∷ pending) → 0 < occ x v.marked → Freeing g (uncounted v x) pending
+pub freeing_uncounts : (g : CountedGraph) (v : View) (x : ℕ) (pending : List ℕ) → Freeing g v (x ∷ pending) → 0 < occ x v.marked → Freeing g (uncounted v x) pending
 freeing_uncounts g v x pending f m =
     let can = freeing_can_uncount g v x pending f m in
     record {
@@ -187,7 +187,7 @@ freeing_uncounts g v x pending f m =
     }
 
 -- a word names no marked object
-pub freeing_skips : (g : Graph) (v : View) (x : ℕ) (pending : List ℕ) → Freeing g v (x ∷ pending) → occ x v.marked ≡ 0 → Freeing g v pending
+pub freeing_skips : (g : CountedGraph) (v : View) (x : ℕ) (pending : List ℕ) → Freeing g v (x ∷ pending) → occ x v.marked ≡ 0 → Freeing g v pending
 freeing_skips g v x pending f none = record {
   is_view = f.is_view;
   is_marked = f.is_marked;
@@ -202,7 +202,7 @@ freeing_skips g v x pending f none = record {
 }
 
 -- an unmarked object isn't shown
-pub unmarked_not_shown : (g : Graph) (v : View) (x : ℕ) (pending : List ℕ) → Freeing g v pending → 0 < occ x v.places → occ x v.marked ≡ 0 → occ x v.shown ≡ 0
+pub unmarked_not_shown : (g : CountedGraph) (v : View) (x : ℕ) (pending : List ℕ) → Freeing g v pending → 0 < occ x v.places → occ x v.marked ≡ 0 → occ x v.shown ≡ 0
 unmarked_not_shown g v x pending f held none = elim (occ-cases x v.shown) [
   | inl z ↦ z
   | inr some ↦
@@ -211,7 +211,7 @@ unmarked_not_shown g v x pending f held none = elim (occ-cases x v.shown) [
 ]
 
 -- an unmarked object is freed, and what it names is to be lowered
-pub freeing_frees : (g : Graph) (v : View) (x : ℕ) → Freeing g v [] → 0 < occ x v.places → occ x v.marked ≡ 0 → Freeing g (freed v x) (g.words x)
+pub freeing_frees : (g : CountedGraph) (v : View) (x : ℕ) → Freeing g v [] → 0 < occ x v.places → occ x v.marked ≡ 0 → Freeing g (freed v x) (g.words x)
 freeing_frees g v x f held none =
     let not_shown = unmarked_not_shown g v x [] f held none in
     let once_x = f.is_view.once x in
@@ -241,7 +241,7 @@ freeing_frees g v x f held none =
     }
 
 -- all that is held is marked
-pub freeing_ends : (g : Graph) (v : View) → Freeing g v [] → ((x : ℕ) → 0 < occ x v.places → 0 < occ x v.marked) → Done g v
+pub freeing_ends : (g : CountedGraph) (v : View) → Freeing g v [] → ((x : ℕ) → 0 < occ x v.places → 0 < occ x v.marked) → Done g v
 freeing_ends g v f all = record {
   is_view = f.is_view;
   held = λ x h. f.is_marked.only x (all x h);
@@ -253,7 +253,7 @@ freeing_ends g v f all = record {
 }
 
 -- a mark is cleared at the end
-pub done_unmarked : (g : Graph) (v : View) (x : ℕ) → Done g v → 0 < occ x v.marked → Done g (unmarked v x)
+pub done_unmarked : (g : CountedGraph) (v : View) (x : ℕ) → Done g v → 0 < occ x v.marked → Done g (unmarked v x)
 done_unmarked g v x d m = record {
   is_view = record {
     once = d.is_view.once;

@@ -11,13 +11,13 @@ use Rattle.gc_memory.proofs.ListLemmas.{In-occ, occ-In, occ-same, sum_over-same}
 use Rattle.gc_drc.specs.declared.space.CountedSpace.{CountedSpace}
 use Rattle.gc_drc.specs.View.{View, Linked, last, link}
 use Rattle.gc_drc.specs.SpaceLaws.{places_are}
-use Rattle.gc_drc.specs.Graph.{Graph}
+use Rattle.gc_drc.specs.Graph.{CountedGraph}
 use Rattle.gc_drc.specs.CollectOps.{same, without_one, marked_also}
 use Rattle.gc_drc.specs.CollectStates.{Tracing}
 use Rattle.gc_drc.specs.CollectMemory.{Context, At, CanMark}
 use Rattle.gc_drc.specs.CollectVisits.{CanVisitObject}
-use Rattle.gc_drc.specs.CollectDrain.{IsPlaceWord}
-use Rattle.gc_drc.specs.CollectTrace.{Settled, Traces, CanScan, root_words, chain_length, trace_left, fresh_in}
+use Rattle.gc_drc.specs.CollectDrain.{IsCountingPlace}
+use Rattle.gc_drc.specs.CollectTrace.{Settled, Traces, CanScanNext, words_in_roots, chain_length, trace_left, fresh_in}
 use Rattle.gc_drc.proofs.OccLemmas.{same-is, same-not, occ-without}
 use Rattle.gc_drc.proofs.SweepLemmas.{marked_is_view}
 use Rattle.gc_drc.proofs.TraceLemmas.{trace_marks, trace_passes, trace_scans}
@@ -32,18 +32,18 @@ use Rattle.gc_drc.proofs.SweepMemory.{mark_read, fresh_read, marked_read, sum_ch
 
 -- WORDS
 
-word_held : (c : Context) (unscanned : List ℕ) (s : CountedSpace) (head fresh w : ℕ) (rest : List ℕ) (t : Traces c unscanned s head fresh (w ∷ rest)) → IsPlaceWord w → In w t.view.places
+word_held : (c : Context) (unscanned : List ℕ) (s : CountedSpace) (head fresh w : ℕ) (rest : List ℕ) (t : Traces c unscanned s head fresh (w ∷ rest)) → IsCountingPlace w → In w t.view.places
 word_held c unscanned s head fresh w rest t is = subst (λ (ps : List ℕ). In w ps) (sym t.settled.all_held) (place_in c w (t.known w here) is)
 
-pub word_room : (c : Context) (unscanned : List ℕ) (s : CountedSpace) (head fresh w : ℕ) (rest : List ℕ) → Traces c unscanned s head fresh (w ∷ rest) → IsPlaceWord w → w + 28 ≤ length s.memory
+pub word_room : (c : Context) (unscanned : List ℕ) (s : CountedSpace) (head fresh w : ℕ) (rest : List ℕ) → Traces c unscanned s head fresh (w ∷ rest) → IsCountingPlace w → w + 28 ≤ length s.memory
 word_room c unscanned s head fresh w rest t is = room_at c t.view s w t.at (word_held c unscanned s head fresh w rest t is)
 
-pub word_can : (c : Context) (unscanned : List ℕ) (s : CountedSpace) (head fresh w : ℕ) (rest : List ℕ) (b : Bool) → Traces c unscanned s head fresh (w ∷ rest) → IsPlaceWord w → b ≡ nat_eq (word s.memory w % 2) 1 → b ≡ false → CanMark s w
+pub word_can : (c : Context) (unscanned : List ℕ) (s : CountedSpace) (head fresh w : ℕ) (rest : List ℕ) (b : Bool) → Traces c unscanned s head fresh (w ∷ rest) → IsCountingPlace w → b ≡ nat_eq (word s.memory w % 2) 1 → b ≡ false → CanMark s w
 word_can c unscanned s head fresh w rest b t is read off =
     let held = word_held c unscanned s head fresh w rest t is in
     record { context = c; view = t.view; at = t.at; held = held; fresh = fresh_read c t.view s w b t.at held read off }
 
-settled_marked : (g : Graph) (v : View) (w : ℕ) → Settled g v → In w v.places → occ w v.marked ≡ 0 → Settled g (marked_also v w)
+settled_marked : (g : CountedGraph) (v : View) (w : ℕ) → Settled g v → In w v.places → occ w v.marked ≡ 0 → Settled g (marked_also v w)
 settled_marked g v w t i none = record {
   is_view = marked_is_view v w t.is_view (In-occ w v.places i) none;
   cascading = record { counts = t.cascading.counts; from = t.cascading.from; gone = t.cascading.gone; shown = t.cascading.shown; freed = t.cascading.freed };
@@ -92,7 +92,7 @@ link_free c v s s' x n at i none small is =
     )
 
 -- an object is marked, and is to be scanned
-pub traces_marks : (c : Context) (unscanned : List ℕ) (s s1 s2 : CountedSpace) (head fresh w : ℕ) (rest : List ℕ) (b : Bool) → Traces c unscanned s head fresh (w ∷ rest) → IsPlaceWord w
+pub traces_marks : (c : Context) (unscanned : List ℕ) (s s1 s2 : CountedSpace) (head fresh w : ℕ) (rest : List ℕ) (b : Bool) → Traces c unscanned s head fresh (w ∷ rest) → IsCountingPlace w
     → b ≡ nat_eq (word s.memory w % 2) 1 → b ≡ false → head < 2 ^ 32
     → ((o : Context) (v : View) → At o v s → In w v.places → occ w v.marked ≡ 0 → At o (marked_also v w) s1)
     → ((o : Context) (v : View) (h : ℕ) (list : List ℕ) → At o v s → In w v.places → ((p : ℕ) → In p list → In p v.places) → Linked s.memory 24 h list → Linked s1.memory 24 h list)
@@ -128,7 +128,7 @@ traces_marks c unscanned s s1 s2 head fresh w rest b t is read off small marks l
       left_is = omega (arith, t.fresh_is);
     }
 
-pub traces_passes : (c : Context) (unscanned : List ℕ) (s : CountedSpace) (head fresh w : ℕ) (rest : List ℕ) (b : Bool) → Traces c unscanned s head fresh (w ∷ rest) → IsPlaceWord w
+pub traces_passes : (c : Context) (unscanned : List ℕ) (s : CountedSpace) (head fresh w : ℕ) (rest : List ℕ) (b : Bool) → Traces c unscanned s head fresh (w ∷ rest) → IsCountingPlace w
     → b ≡ nat_eq (word s.memory w % 2) 1 → b ≡ true → Traces c unscanned s head fresh rest
 traces_passes c unscanned s head fresh w rest b t is read on =
     let held = word_held c unscanned s head fresh w rest t is in
@@ -144,7 +144,7 @@ traces_passes c unscanned s head fresh w rest b t is read on =
       left_is = t.left_is;
     }
 
-pub traces_skips : (c : Context) (unscanned : List ℕ) (s : CountedSpace) (head fresh w : ℕ) (rest : List ℕ) → Traces c unscanned s head fresh (w ∷ rest) → (IsPlaceWord w → ⊥) → Traces c unscanned s head fresh rest
+pub traces_skips : (c : Context) (unscanned : List ℕ) (s : CountedSpace) (head fresh w : ℕ) (rest : List ℕ) → Traces c unscanned s head fresh (w ∷ rest) → (IsCountingPlace w → ⊥) → Traces c unscanned s head fresh rest
 traces_skips c unscanned s head fresh w rest t isnt = record {
   view = t.view;
   at = t.at;
@@ -248,7 +248,7 @@ trace_left_is c unscanned s head fresh pending t =
     omega arith
 
 -- an object that isn't marked is one of them
-pub some_fresh : (c : Context) (unscanned : List ℕ) (s : CountedSpace) (head fresh w : ℕ) (rest : List ℕ) (b : Bool) → Traces c unscanned s head fresh (w ∷ rest) → IsPlaceWord w
+pub some_fresh : (c : Context) (unscanned : List ℕ) (s : CountedSpace) (head fresh w : ℕ) (rest : List ℕ) (b : Bool) → Traces c unscanned s head fresh (w ∷ rest) → IsCountingPlace w
     → b ≡ nat_eq (word s.memory w % 2) 1 → b ≡ false → 0 < fresh
 some_fresh c unscanned s head fresh w rest b t is read off =
     let v = t.view in
@@ -262,13 +262,13 @@ some_fresh c unscanned s head fresh w rest b t is read off =
     (λ p i ne. let other : same p w ≡ 0 = same-not p w ne in omega arith) in
     omega (arith, t.fresh_is)
 
-pub scan_can : (types : List Declaration) (s : CountedSpace) (head fresh n : ℕ) → CanScan types s head fresh → 0 < head → n ≡ word s.memory (head + 24)
+pub scan_can : (types : List Declaration) (s : CountedSpace) (head fresh n : ℕ) → CanScanNext types s head fresh → 0 < head → n ≡ word s.memory (head + 24)
     → CanVisitObject (λ o unscanned words. Traces o unscanned s n fresh words) types head
 scan_can types s head fresh n can some read =
     let p = popped can.context can.unscanned s head fresh n some can.traces read in
     record { context = can.context; places = p.left; typed = can.typed; place_in = p.place_in; is = p.traces }
 
-pub scan_room : (types : List Declaration) (s : CountedSpace) (head fresh : ℕ) → CanScan types s head fresh → 0 < head → head + 28 ≤ length s.memory
+pub scan_room : (types : List Declaration) (s : CountedSpace) (head fresh : ℕ) → CanScanNext types s head fresh → 0 < head → head + 28 ≤ length s.memory
 scan_room types s head fresh can some =
     let p = popped can.context can.unscanned s head fresh _ some can.traces refl in
     (object_room can.context s.memory head can.traces.at.start can.traces.at.intact p.place_in).0
@@ -282,7 +282,7 @@ scans c unscanned types s s' head fresh n head' fresh' some read visits typed t 
 
 pub scan_less : (types : List Declaration) (s s' : CountedSpace) (head fresh n head' fresh' : ℕ) → 0 < head → n ≡ word s.memory (head + 24)
     → ((o : Context) (left : List ℕ) → o.types ≡ types → In head o.graph.places → Traces o left s n fresh (o.graph.words head) → Traces o left s' head' fresh' [])
-    → CanScan types s head fresh → trace_left s' head' < trace_left s head
+    → CanScanNext types s head fresh → trace_left s' head' < trace_left s head
 scan_less types s s' head fresh n head' fresh' some read visits can =
     let r = scans can.context can.unscanned types s s' head fresh n head' fresh' some read visits can.typed can.traces in
     omega (arith, r.1.1, trace_left_is can.context can.unscanned s head fresh [] can.traces, trace_left_is can.context r.0 s' head' fresh' [] r.1.0)
@@ -291,7 +291,7 @@ scan_less types s s' head fresh n head' fresh' some read visits can =
 abbrev pub Scans : List Declaration → CountedSpace → ℕ → ℕ → CountedSpace → ℕ → ℕ → Type 0
 Scans types s head fresh s' head' fresh' = (c : Context) (unscanned : List ℕ) → c.types ≡ types → Traces c unscanned s head fresh [] → (left : List ℕ) × Traces c left s' head' fresh' []
 
-pub scans_can : (types : List Declaration) (s s' : CountedSpace) (head fresh head' fresh' : ℕ) → Scans types s head fresh s' head' fresh' → CanScan types s head fresh → CanScan types s' head' fresh'
+pub scans_can : (types : List Declaration) (s s' : CountedSpace) (head fresh head' fresh' : ℕ) → Scans types s head fresh s' head' fresh' → CanScanNext types s head fresh → CanScanNext types s' head' fresh'
 scans_can types s s' head fresh head' fresh' scanned can =
     let r = scanned can.context can.unscanned can.typed can.traces in
     record { context = can.context; unscanned = r.0; typed = can.typed; traces = r.1 }
@@ -304,7 +304,7 @@ scans_step types s s' s2 head fresh head' fresh' head2 fresh2 scanned step c uns
     (q.0, q.1.0)
 
 -- an object that was marked has its words
-pub marked_room : (c : Context) (unscanned : List ℕ) (s s1 : CountedSpace) (head fresh w : ℕ) (rest : List ℕ) (b : Bool) → Traces c unscanned s head fresh (w ∷ rest) → IsPlaceWord w → b ≡ nat_eq (word s.memory w % 2) 1 → b ≡ false
+pub marked_room : (c : Context) (unscanned : List ℕ) (s s1 : CountedSpace) (head fresh w : ℕ) (rest : List ℕ) (b : Bool) → Traces c unscanned s head fresh (w ∷ rest) → IsCountingPlace w → b ≡ nat_eq (word s.memory w % 2) 1 → b ≡ false
     → ((o : Context) (v : View) → At o v s → In w v.places → occ w v.marked ≡ 0 → At o (marked_also v w) s1) → w + 28 ≤ length s1.memory
 marked_room c unscanned s s1 head fresh w rest b t is read off marks =
     let held = word_held c unscanned s head fresh w rest t is in
@@ -312,10 +312,10 @@ marked_room c unscanned s s1 head fresh w rest b t is read off marks =
 
 -- ROOTS
 
-pub words_step : (roots : List Root) (i : ℕ) → i < length roots → root_words (drop i roots) ≡ (root_at roots i).word ∷ root_words (drop (i + 1) roots)
-words_step roots i h = ap root_words (drop_more roots i no_root h)
+pub words_step : (roots : List Root) (i : ℕ) → i < length roots → words_in_roots (drop i roots) ≡ (root_at roots i).word ∷ words_in_roots (drop (i + 1) roots)
+words_step roots i h = ap words_in_roots (drop_more roots i no_root h)
 
-pub words_end : (roots : List Root) (i : ℕ) → length roots ≤ i → root_words (drop i roots) ≡ []
+pub words_end : (roots : List Root) (i : ℕ) → length roots ≤ i → words_in_roots (drop i roots) ≡ []
 words_end [] zero h = refl
 words_end [] (suc i) h = refl
 words_end (r ∷ roots) zero h = absurd (omega arith)

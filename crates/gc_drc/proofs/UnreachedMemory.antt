@@ -11,14 +11,14 @@ use Rattle.gc_memory.specs.Words.{word}
 use Rattle.gc_memory.proofs.ListLemmas.{In-occ, occ-In, occ-same}
 use Rattle.gc_drc.specs.declared.space.CountedSpace.{CountedSpace}
 use Rattle.gc_drc.specs.View.{View, last}
-use Rattle.gc_drc.specs.Graph.{Graph, names, Reached, by_root, by_frame, by_field}
+use Rattle.gc_drc.specs.Graph.{CountedGraph, names, CountingReached, by_root, by_frame, by_field}
 use Rattle.gc_drc.specs.CollectStates.{Cascading, Drained, Tracing, Done}
-use Rattle.gc_drc.specs.CollectMemory.{Context, IsContext, IsWord, At}
+use Rattle.gc_drc.specs.CollectMemory.{Context, IsContext, IsCountingWord, At}
 use Rattle.gc_drc.specs.CollectHosts.{HostsLeft}
-use Rattle.gc_drc.specs.CollectTrace.{Settled, Traces, CanScan, root_words, fresh_in}
+use Rattle.gc_drc.specs.CollectTrace.{Settled, Traces, CanScanNext, words_in_roots, fresh_in}
 use Rattle.gc_drc.specs.CollectWalk.{Garbage, CanFreeUnmarked, FreedUnmarked}
 use Rattle.gc_drc.specs.CollectClear.{AllMarked, Unmarked}
-use Rattle.gc_drc.specs.CollectSpan.{IsOf}
+use Rattle.gc_drc.specs.CollectSpan.{IsContextOf}
 use Rattle.gc_drc.specs.CollectUnreached.{held_context, Swept, FreesUnreached}
 use Rattle.gc_drc.proofs.OccLemmas.{occ-cases, names-at}
 use Rattle.gc_drc.proofs.SweepLemmas.{reached_kept}
@@ -44,12 +44,12 @@ held_other : (r : Root) (rs : List Root) → r.on_stack ≡ true → held_words 
 held_other r rs e = ap (λ b. map (λ (q : Root). q.word) (cond (not b) (r ∷ filter (λ (q : Root). not q.on_stack) rs) (filter (λ (q : Root). not q.on_stack) rs))) e
 
 -- each root is a frame slot, or none
-pub occ-roots : (x : ℕ) (roots : List Root) → occ x (root_words roots) ≡ occ x (held_words roots) + occ x (stack_words roots)
+pub occ-roots : (x : ℕ) (roots : List Root) → occ x (words_in_roots roots) ≡ occ x (held_words roots) + occ x (stack_words roots)
 occ-roots x [] = refl
 occ-roots x (r ∷ roots) = by_slot r.on_stack refl (occ-roots x roots)
   where
-    by_slot : (b : Bool) → r.on_stack ≡ b → occ x (root_words roots) ≡ occ x (held_words roots) + occ x (stack_words roots)
-        → occ x (root_words (r ∷ roots)) ≡ occ x (held_words (r ∷ roots)) + occ x (stack_words (r ∷ roots))
+    by_slot : (b : Bool) → r.on_stack ≡ b → occ x (words_in_roots roots) ≡ occ x (held_words roots) + occ x (stack_words roots)
+        → occ x (words_in_roots (r ∷ roots)) ≡ occ x (held_words (r ∷ roots)) + occ x (stack_words (r ∷ roots))
     by_slot true e rest =
         let held = ap (λ (xs : List ℕ). occ x xs) (held_other r roots e) in
         let stack = ap (λ (xs : List ℕ). occ x xs) (stack_first r roots e) in
@@ -67,19 +67,19 @@ all_fresh marked (p ∷ ps) none = let zero_p = none p in let rest = all_fresh m
 -- WHAT IS LEFT
 
 -- a place that has a name is held
-named_held : (g : Graph) (v : View) (x : ℕ) → Cascading g v [] → 0 < occ x g.places → 0 < names g v.places x + occ x g.roots → In x v.places
+named_held : (g : CountedGraph) (v : View) (x : ℕ) → Cascading g v [] → 0 < occ x g.places → 0 < names g v.places x + occ x g.roots → In x v.places
 named_held g v x d place named = elim (occ-cases x v.places) [
   | inr some ↦ occ-In x v.places some
   | inl none ↦ absurd (let gone = d.gone x place none in let counts = d.counts x place in omega arith)
 ]
 
-shown_held : (g : Graph) (v : View) (x : ℕ) → Drained g v → 0 < occ x g.places → 0 < occ x g.frames → In x v.places
+shown_held : (g : CountedGraph) (v : View) (x : ℕ) → Drained g v → 0 < occ x g.places → 0 < occ x g.frames → In x v.places
 shown_held g v x d place frame =
     let on_list = d.draining.cascading.shown x place frame in
     let held = d.draining.is_view.shown x in
     occ-In x v.places (omega arith)
 
-still_word : (c : Context) (places : List ℕ) (w : ℕ) → IsWord c w → (In w c.graph.places → In w places) → IsWord (held_context c places) w
+still_word : (c : Context) (places : List ℕ) (w : ℕ) → IsCountingWord c w → (In w c.graph.places → In w places) → IsCountingWord (held_context c places) w
 still_word c places w (inl e) held = inl e
 still_word c places w (inr (inl odd)) held = inr (inl odd)
 still_word c places w (inr (inr i)) held = inr (inr (held i))
@@ -132,7 +132,7 @@ module _ (c : Context) (v : View) (s : CountedSpace) (at : At c v s) (d : Draine
       }
 
   -- the words of all roots are to be looked at
-  left_traces : (roots : List Root) (types : List Declaration) → IsOf c roots types → (unscanned : List ℕ) × Traces (held_context c v.places) unscanned s 0 s.objects (root_words roots)
+  left_traces : (roots : List Root) (types : List Declaration) → IsContextOf c roots types → (unscanned : List ℕ) × Traces (held_context c v.places) unscanned s 0 s.objects (words_in_roots roots)
   left_traces roots types is =
       let unscanned = list_of s.objects in (
         unscanned.0,
@@ -141,9 +141,9 @@ module _ (c : Context) (v : View) (s : CountedSpace) (at : At c v s) (d : Draine
           at = left_at;
           settled = left_settled;
           work = [];
-          tracing = trace_begins (held_context c v.places).graph v (root_words roots) all d.draining.none_marked;
+          tracing = trace_begins (held_context c v.places).graph v (words_in_roots roots) all d.draining.none_marked;
           linked = last;
-          known = λ w j. known w (In-occ w (root_words roots) j);
+          known = λ w j. known w (In-occ w (words_in_roots roots) j);
           fresh_is = fresh;
           left_is = omega (arith, unscanned.1);
         },
@@ -156,14 +156,14 @@ module _ (c : Context) (v : View) (s : CountedSpace) (at : At c v s) (d : Draine
       list_of zero = ([], refl)
       list_of (suc n) = let rest = list_of n in (0 ∷ rest.0, ap suc rest.1)
 
-      all : (x : ℕ) → occ x (root_words roots) ≡ occ x c.graph.roots + occ x c.graph.frames
+      all : (x : ℕ) → occ x (words_in_roots roots) ≡ occ x c.graph.roots + occ x c.graph.frames
       all x =
           let parts = occ-roots x roots in
           let held = ap (λ (xs : List ℕ). occ x xs) is.roots_are in
           let stack = ap (λ (xs : List ℕ). occ x xs) is.frames_are in
           omega arith
 
-      known : (w : ℕ) → 0 < occ w (root_words roots) → IsWord (held_context c v.places) w
+      known : (w : ℕ) → 0 < occ w (words_in_roots roots) → IsCountingWord (held_context c v.places) w
       known w some = elim (occ-cases w c.graph.roots) [
         | inr root ↦ left_context.roots w (occ-In w c.graph.roots root)
         | inl none ↦ left_context.frames w (occ-In w c.graph.frames (let a = all w in omega arith))
@@ -199,11 +199,11 @@ freed_marked D c before now s f =
 
 -- BACK TO THE START
 
-module _ (g : Graph) (v : View) (d : Drained g v) where
-  abbrev left_graph : Graph
+module _ (g : CountedGraph) (v : View) (d : Drained g v) where
+  abbrev left_graph : CountedGraph
   left_graph = record g { places = v.places }
 
-  reached_before : (x : ℕ) → Reached left_graph x → Reached g x
+  reached_before : (x : ℕ) → CountingReached left_graph x → CountingReached g x
   reached_before x (by_root i r) = by_root (start_in x i) r
     where
       start_in : (y : ℕ) → In y v.places → In y g.places
@@ -217,7 +217,7 @@ module _ (g : Graph) (v : View) (d : Drained g v) where
       start_in : (y : ℕ) → In y v.places → In y g.places
       start_in y j = occ-In y g.places (let from = d.draining.cascading.from y in let some = In-occ y v.places j in omega arith)
 
-  reached_after : (x : ℕ) → Reached g x → Reached left_graph x
+  reached_after : (x : ℕ) → CountingReached g x → CountingReached left_graph x
   reached_after x (by_root i r) = by_root (occ-In x v.places (reached_kept g v d x (by_root i r))) r
   reached_after x (by_frame i f) = by_frame (occ-In x v.places (reached_kept g v d x (by_frame i f))) f
   reached_after x (by_field {from = q} i r w) = by_field (occ-In x v.places (reached_kept g v d x (by_field i r w))) (reached_after q r) w
@@ -237,7 +237,7 @@ module _ (g : Graph) (v : View) (d : Drained g v) where
 -- THE INCREMENT
 
 abbrev pub MarksRoots : CountedSpace → List Root → CountedSpace → ℕ → ℕ → Type 0
-MarksRoots s roots s1 h1 f1 = (c : Context) (unscanned : List ℕ) → Traces c unscanned s 0 s.objects (root_words roots) → Traces c unscanned s1 h1 f1 []
+MarksRoots s roots s1 h1 f1 = (c : Context) (unscanned : List ℕ) → Traces c unscanned s 0 s.objects (words_in_roots roots) → Traces c unscanned s1 h1 f1 []
 
 abbrev pub ScansAll : List Declaration → CountedSpace → ℕ → ℕ → CountedSpace → ℕ → ℕ → Type 0
 ScansAll types s1 h1 f1 s2 h2 f2 = (c : Context) (unscanned : List ℕ) → c.types ≡ types → Traces c unscanned s1 h1 f1 [] → (left : List ℕ) × Traces c left s2 h2 f2 []
@@ -250,14 +250,14 @@ Unmarks s3 s4 = (c : Context) (places : List ℕ) → AllMarked c places s3 → 
 
 -- the increment may begin
 abbrev pub CanFreeUnreached : CountedSpace → List Root → List Declaration → Type 0
-CanFreeUnreached s roots types = (c : Context) × ((places : List ℕ) × (IsOf c roots types × Swept c places s))
+CanFreeUnreached s roots types = (c : Context) × ((places : List ℕ) × (IsContextOf c roots types × Swept c places s))
 
-pub third_marks : (types : List Declaration) (s : CountedSpace) (roots : List Root) → CanFreeUnreached s roots types → (o : Context) × ((unscanned : List ℕ) × Traces o unscanned s 0 s.objects (root_words roots))
+pub third_marks : (types : List Declaration) (s : CountedSpace) (roots : List Root) → CanFreeUnreached s roots types → (o : Context) × ((unscanned : List ℕ) × Traces o unscanned s 0 s.objects (words_in_roots roots))
 third_marks types s roots can =
     let w = can.1.1.1 in
     (held_context can.0 w.view.places, left_traces can.0 w.view s w.at w.drained roots types can.1.1.0)
 
-pub third_scans : (types : List Declaration) (s s1 : CountedSpace) (h1 f1 : ℕ) (roots : List Root) → MarksRoots s roots s1 h1 f1 → CanFreeUnreached s roots types → CanScan types s1 h1 f1
+pub third_scans : (types : List Declaration) (s s1 : CountedSpace) (h1 f1 : ℕ) (roots : List Root) → MarksRoots s roots s1 h1 f1 → CanFreeUnreached s roots types → CanScanNext types s1 h1 f1
 third_scans types s s1 h1 f1 roots marks can =
     let is = can.1.1.0 in
     let w = can.1.1.1 in
@@ -265,7 +265,7 @@ third_scans types s s1 h1 f1 roots marks can =
     record { context = held_context can.0 w.view.places; unscanned = t.0; typed = is.types_are; traces = marks (held_context can.0 w.view.places) t.0 t.1 }
 
 -- nothing is left to scan
-traced : (types : List Declaration) (s s1 s2 : CountedSpace) (h1 f1 h2 f2 : ℕ) (roots : List Root) → MarksRoots s roots s1 h1 f1 → ScansAll types s1 h1 f1 s2 h2 f2 → (c : Context) (places : List ℕ) → IsOf c roots types
+traced : (types : List Declaration) (s s1 s2 : CountedSpace) (h1 f1 h2 f2 : ℕ) (roots : List Root) → MarksRoots s roots s1 h1 f1 → ScansAll types s1 h1 f1 s2 h2 f2 → (c : Context) (places : List ℕ) → IsContextOf c roots types
     → (w : Swept c places s) → (left : List ℕ) × Traces (held_context c w.view.places) left s2 h2 f2 []
 traced types s s1 s2 h1 f1 h2 f2 roots marks scans c places is w =
     let t = left_traces c w.view s w.at w.drained roots types is in
@@ -317,7 +317,7 @@ none_fresh D c before now places s fresh is none garbage = record {
 
 module _ (D : Type 0) (types : List Declaration) (s s1 s2 s3 : CountedSpace) (h1 f1 h2 f2 : ℕ) (roots : List Root) (hosts now : finite.FinMap nat_cmp D)
     (marks : MarksRoots s roots s1 h1 f1) (scans : ScansAll types s1 h1 f1 s2 h2 f2) (none : h2 ≡ 0) (frees : FreesRest types s2 hosts s3 now) where
-  third_freed : (c : Context) (places : List ℕ) → IsOf c roots types → (w : Swept c places s) → FreedUnmarked D (held_context c w.view.places) hosts s3 now
+  third_freed : (c : Context) (places : List ℕ) → IsContextOf c roots types → (w : Swept c places s) → FreedUnmarked D (held_context c w.view.places) hosts s3 now
   third_freed c places is w =
       let t = traced types s s1 s2 h1 f1 h2 f2 roots marks scans c places is w in
       frees (held_context c w.view.places) hosts t.1.view.places is.types_are (traced_garbage D (held_context c w.view.places) t.0 s2 h2 f2 hosts none t.1)
@@ -328,7 +328,7 @@ module _ (D : Type 0) (types : List Declaration) (s s1 s2 s3 : CountedSpace) (h1
       let f = third_freed can.0 can.1.0 can.1.1.0 w in
       (held_context can.0 w.view.places, (f.places, freed_marked D (held_context can.0 w.view.places) hosts now s3 f))
 
-  pub third_ends : (s4 : CountedSpace) → Unmarks s3 s4 → (c : Context) (places : List ℕ) → IsOf c roots types → Swept c places s → FreesUnreached D c places s4 hosts now
+  pub third_ends : (s4 : CountedSpace) → Unmarks s3 s4 → (c : Context) (places : List ℕ) → IsContextOf c roots types → Swept c places s → FreesUnreached D c places s4 hosts now
   third_ends s4 unmarks c places is w =
       let f = third_freed c places is w in
       let u = unmarks (held_context c w.view.places) f.places (freed_marked D (held_context c w.view.places) hosts now s3 f) in

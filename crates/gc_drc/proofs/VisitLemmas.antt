@@ -16,8 +16,8 @@ use Rattle.gc_types.proofs.KindLemmas.{kind_of-kind_bits}
 use Rattle.gc_types.specs.declared.kind.VMGcKind.{VMGcKind}
 use Rattle.gc_refs.specs.Header.{IsOfKind, kind_part}
 use Rattle.gc_drc.proofs.RewriteLemmas.{kind_at_same}
-use Rattle.gc_drc.specs.Layout.{size_at, kind_at}
-use Rattle.gc_drc.specs.CollectMemory.{Context, IsContext, Intact, words_at, traced_offsets, info_of, info_at, offsets_at}
+use Rattle.gc_drc.specs.Layout.{counting_size_at, counting_kind_at}
+use Rattle.gc_drc.specs.CollectMemory.{Context, IsContext, Intact, words_at, offsets_by_info, info_of, info_at, counting_offsets_at}
 use Rattle.gc_drc.specs.CollectVisits.{InObject, CanVisit, CanVisitAt, CanVisitArray, CanVisitObject, Visits, VisitsArray, VisitsObject, array_offsets}
 
 -- a word of an object that is as it was, and where it lies
@@ -35,7 +35,7 @@ word_read c m place offset rest start intact object =
     let small = start.small in
     let same = intact.objects place object.place_in in
     let from : 28 ≤ offset = in_object.0 in
-    let to : offset + 4 ≤ size_at c.memory place = in_object.1 in
+    let to : offset + 4 ≤ counting_size_at c.memory place = in_object.1 in
     record {
       room = omega arith;
       fits = omega arith;
@@ -104,21 +104,21 @@ element_fits state place offset can start =
     let lies = is.lies place can.can.object.place_in in
     let inside = lies.inside in
     let small = is.small in
-    let to : offset + 4 ≤ size_at can.can.context.memory place = (can.can.object.inside offset here).1 in
+    let to : offset + 4 ≤ counting_size_at can.can.context.memory place = (can.can.object.inside offset here).1 in
     omega arith
 
 -- KINDS
 
 -- a kind word is of one kind
-pub kind_is : (m : List ℕ) (p : ℕ) (k : VMGcKind) → IsOfKind k (word m p) → k ≡ kind_at m p
-unfolding kind_at
+pub kind_is : (m : List ℕ) (p : ℕ) (k : VMGcKind) → IsOfKind k (word m p) → k ≡ counting_kind_at m p
+unfolding counting_kind_at
 kind_is m p k e = sym (kind_of-kind_bits k) ∙ ap kind_of e
 
 -- what an object's references are is as it was
-pub offsets_same : (c : Context) (m : List ℕ) (p : ℕ) → IsContext c → Intact c m → In p c.graph.places → kind_at m p ≡ kind_at c.memory p × (word m (p + 4) ≡ word c.memory (p + 4))
+pub offsets_same : (c : Context) (m : List ℕ) (p : ℕ) → IsContext c → Intact c m → In p c.graph.places → counting_kind_at m p ≡ counting_kind_at c.memory p × (word m (p + 4) ≡ word c.memory (p + 4))
 offsets_same c m p start intact i = let s = intact.objects p i in (kind_at_same c.memory m p s.kind, s.ty)
 
-pub kind_part_same : (c : Context) (m : List ℕ) (p : ℕ) → IsContext c → Intact c m → In p c.graph.places → IsOfKind (kind_at m p) (word m p)
+pub kind_part_same : (c : Context) (m : List ℕ) (p : ℕ) → IsContext c → Intact c m → In p c.graph.places → IsOfKind (counting_kind_at m p) (word m p)
 kind_part_same c m p start intact i =
     let s = intact.objects p i in
     let e = s.kind in
@@ -140,7 +140,7 @@ object_room c m p start intact i =
 abbrev pub Tells : (Context → List ℕ → List ℕ → Type 0) → List ℕ → Type 0
 Tells state m = (c : Context) (places words : List ℕ) → state c places words → IsContext c × Intact c m
 
-count_same : (c : Context) (m : List ℕ) (place count : ℕ) (elements : Bool) → elements ≡ true → IsContext c → Intact c m → In place c.graph.places → 32 ≤ size_at c.memory place
+count_same : (c : Context) (m : List ℕ) (place count : ℕ) (elements : Bool) → elements ≡ true → IsContext c → Intact c m → In place c.graph.places → 32 ≤ counting_size_at c.memory place
     → count ≡ u32_at m (place + 28) → array_offsets elements c.memory place ≡ word_offsets 32 count
 count_same c m place count elements is start intact i array read =
     let same = intact.objects place i in
@@ -175,14 +175,14 @@ pub info_same : (c : Context) (m : List ℕ) (types : List Declaration) (place :
 info_same c m types place typed start intact i =
     let s = offsets_same c m place start intact i in
     ap (λ k. info_of k (trace_at Counting types (word m (place + 4)))) s.0
-    ∙ ap (λ (n : ℕ). info_of (kind_at c.memory place) (trace_at Counting types n)) s.1
-    ∙ ap (λ ts. info_of (kind_at c.memory place) (trace_at Counting ts (word c.memory (place + 4)))) (sym typed)
+    ∙ ap (λ (n : ℕ). info_of (counting_kind_at c.memory place) (trace_at Counting types n)) s.1
+    ∙ ap (λ ts. info_of (counting_kind_at c.memory place) (trace_at Counting ts (word c.memory (place + 4)))) (sym typed)
 
 -- an object of the start whose references lie at these offsets
-object_at_offsets : (c : Context) (place : ℕ) (offsets : List ℕ) → IsContext c → In place c.graph.places → offsets_at c.types c.memory place ≡ offsets → InObject c place offsets
+object_at_offsets : (c : Context) (place : ℕ) (offsets : List ℕ) → IsContext c → In place c.graph.places → counting_offsets_at c.types c.memory place ≡ offsets → InObject c place offsets
 object_at_offsets c place offsets start i e = subst (λ (xs : List ℕ). InObject c place xs) e (record { place_in = i; inside = λ o j. start.offsets place o i j })
 
-words_as : (c : Context) (place : ℕ) (offsets : List ℕ) → IsContext c → In place c.graph.places → offsets_at c.types c.memory place ≡ offsets → c.graph.words place ≡ words_at c.memory place offsets
+words_as : (c : Context) (place : ℕ) (offsets : List ℕ) → IsContext c → In place c.graph.places → counting_offsets_at c.types c.memory place ≡ offsets → c.graph.words place ≡ words_at c.memory place offsets
 words_as c place offsets start i e = start.words place i ∙ ap (λ (xs : List ℕ). words_at c.memory place xs) e
 
 -- a struct or an exception
@@ -190,8 +190,8 @@ pub struct_can : (state : Context → List ℕ → List ℕ → Type 0) (m : Lis
     → info_at types m place ≡ Some (trace.Struct offsets) → CanVisitObject state types place → CanVisit state place offsets
 struct_can state m types place offsets tells info can =
     let t = tells can.context can.places _ can.is in
-    let e : offsets_at can.context.types can.context.memory place ≡ offsets =
-    ap (λ x. traced_offsets x (word can.context.memory (place + 28))) (sym (info_same can.context m types place can.typed t.0 t.1 can.place_in) ∙ info) in
+    let e : counting_offsets_at can.context.types can.context.memory place ≡ offsets =
+    ap (λ x. offsets_by_info x (word can.context.memory (place + 28))) (sym (info_same can.context m types place can.typed t.0 t.1 can.place_in) ∙ info) in
     record {
       context = can.context;
       places = can.places;
@@ -203,11 +203,11 @@ pub struct_visits : (old new : Context → List ℕ → List ℕ → Type 0) (m 
     → info_at types m place ≡ Some (trace.Struct offsets) → Visits old new place offsets [] → VisitsObject old new types place
 struct_visits old new m types place offsets tells info visits c places typed i state =
     let t = tells c places _ state in
-    let e : offsets_at c.types c.memory place ≡ offsets = ap (λ x. traced_offsets x (word c.memory (place + 28))) (sym (info_same c m types place typed t.0 t.1 i) ∙ info) in
+    let e : counting_offsets_at c.types c.memory place ≡ offsets = ap (λ x. offsets_by_info x (word c.memory (place + 28))) (sym (info_same c m types place typed t.0 t.1 i) ∙ info) in
     visits c places (object_at_offsets c place offsets t.0 i e) (subst (λ (ws : List ℕ). old c places ws) (words_as c place offsets t.0 i e) state)
 
 -- an array
-info_array : (b : Bool) (bytes : List ℕ) (place : ℕ) → traced_offsets (Some (trace.Array b)) (word bytes (place + 28)) ≡ array_offsets b bytes place
+info_array : (b : Bool) (bytes : List ℕ) (place : ℕ) → offsets_by_info (Some (trace.Array b)) (word bytes (place + 28)) ≡ array_offsets b bytes place
 info_array true bytes place = refl
 info_array false bytes place = refl
 
@@ -216,8 +216,8 @@ pub array_object_can : (state : Context → List ℕ → List ℕ → Type 0) (m
 array_object_can state m types place elements tells info can =
     let t = tells can.context can.places _ can.is in
     let is : info_at can.context.types can.context.memory place ≡ Some (trace.Array elements) = sym (info_same can.context m types place can.typed t.0 t.1 can.place_in) ∙ info in
-    let e : offsets_at can.context.types can.context.memory place ≡ array_offsets elements can.context.memory place =
-    ap (λ x. traced_offsets x (word can.context.memory (place + 28))) is ∙ info_array elements can.context.memory place in
+    let e : counting_offsets_at can.context.types can.context.memory place ≡ array_offsets elements can.context.memory place =
+    ap (λ x. offsets_by_info x (word can.context.memory (place + 28))) is ∙ info_array elements can.context.memory place in
     record {
       context = can.context;
       places = can.places;
@@ -231,8 +231,8 @@ pub array_object_visits : (old new : Context → List ℕ → List ℕ → Type 
 array_object_visits old new m types place elements tells info visits c places typed i state =
     let t = tells c places _ state in
     let is : info_at c.types c.memory place ≡ Some (trace.Array elements) = sym (info_same c m types place typed t.0 t.1 i) ∙ info in
-    let e : offsets_at c.types c.memory place ≡ array_offsets elements c.memory place =
-    ap (λ x. traced_offsets x (word c.memory (place + 28))) is ∙ info_array elements c.memory place in
+    let e : counting_offsets_at c.types c.memory place ≡ array_offsets elements c.memory place =
+    ap (λ x. offsets_by_info x (word c.memory (place + 28))) is ∙ info_array elements c.memory place in
     visits c places (object_at_offsets c place _ t.0 i e) (t.0.arrays place elements i is) (subst (λ (ws : List ℕ). old c places ws) (words_as c place _ t.0 i e) state)
 
 -- an object with no references
@@ -240,5 +240,5 @@ pub none_visits : (old : Context → List ℕ → List ℕ → Type 0) (m : List
     → info_at types m place ≡ None → VisitsObject old old types place
 none_visits old m types place tells info c places typed i state =
     let t = tells c places _ state in
-    let e : offsets_at c.types c.memory place ≡ [] = ap (λ x. traced_offsets x (word c.memory (place + 28))) (sym (info_same c m types place typed t.0 t.1 i) ∙ info) in
+    let e : counting_offsets_at c.types c.memory place ≡ [] = ap (λ x. offsets_by_info x (word c.memory (place + 28))) (sym (info_same c m types place typed t.0 t.1 i) ∙ info) in
     subst (λ (ws : List ℕ). old c places ws) (words_as c place [] t.0 i e) state

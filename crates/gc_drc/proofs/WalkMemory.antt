@@ -16,16 +16,16 @@ use Rattle.gc_free.specs.Runs.{run, gap, gaps, begins_at, IsSpread}
 use Rattle.gc_free.specs.Space.{places_end}
 use Rattle.gc_free.specs.Listed.{run_length_at}
 use Rattle.gc_drc.specs.declared.space.CountedSpace.{CountedSpace}
-use Rattle.gc_drc.specs.Layout.{size_at, kind_at, block_of}
-use Rattle.gc_drc.specs.View.{View, Holds, block_at, count_of}
+use Rattle.gc_drc.specs.Layout.{counting_size_at, counting_kind_at, block_of}
+use Rattle.gc_drc.specs.View.{View, HoldsBlocks, block_at, count_of}
 use Rattle.gc_drc.specs.PlaceLaws.{spread-lies, spread-apart}
 use Rattle.gc_drc.specs.SpaceLaws.{blocks_apart}
-use Rattle.gc_drc.specs.Graph.{Reached}
+use Rattle.gc_drc.specs.Graph.{CountingReached}
 use Rattle.gc_drc.specs.CollectOps.{same, without_one, uncounted, freed}
 use Rattle.gc_drc.specs.CollectMemory.{Context, At, CanUncountAt, CanRelease}
 use Rattle.gc_drc.specs.CollectVisits.{CanVisitObject}
 use Rattle.gc_drc.specs.CollectHosts.{FreesHostOf, HostsLeft}
-use Rattle.gc_drc.specs.CollectDrain.{IsPlaceWord}
+use Rattle.gc_drc.specs.CollectDrain.{IsCountingPlace}
 use Rattle.gc_drc.specs.CollectWalk.{Uncounts, Garbage, CanFreeGarbage, IsBorder, IsNext, CanWalk, CanSweepGarbage, SweepsGarbage, CanFreeUnmarked, FreedUnmarked, walk_end}
 use Rattle.gc_drc.proofs.WalkStates.{Walk, Walks}
 use Rattle.gc_drc.proofs.OccLemmas.{same-is, same-not, occ-without}
@@ -37,21 +37,21 @@ use Rattle.gc_drc.proofs.SweepMemory.{unmarked_read, marked_true}
 
 -- COUNTS OF MARKED OBJECTS
 
-pub uncounts_room : (c : Context) (places : List ℕ) (s : CountedSpace) (w : ℕ) (rest : List ℕ) → Uncounts c places s (w ∷ rest) → IsPlaceWord w → w + 28 ≤ length s.memory
+pub uncounts_room : (c : Context) (places : List ℕ) (s : CountedSpace) (w : ℕ) (rest : List ℕ) → Uncounts c places s (w ∷ rest) → IsCountingPlace w → w + 28 ≤ length s.memory
 uncounts_room c places s w rest u is = (object_room c s.memory w u.at.start u.at.intact (place_in c w (u.known w here) is)).0
 
-bit_on : (c : Context) (places : List ℕ) (s : CountedSpace) (w : ℕ) (rest : List ℕ) (b : Bool) (u : Uncounts c places s (w ∷ rest)) → IsPlaceWord w → b ≡ nat_eq (word s.memory w % 2) 1 → b ≡ true → 0 < occ w u.view.marked
+bit_on : (c : Context) (places : List ℕ) (s : CountedSpace) (w : ℕ) (rest : List ℕ) (b : Bool) (u : Uncounts c places s (w ∷ rest)) → IsCountingPlace w → b ≡ nat_eq (word s.memory w % 2) 1 → b ≡ true → 0 < occ w u.view.marked
 bit_on c places s w rest b u is read on =
     let bit = u.bits w (place_in c w (u.known w here) is) in
     let one = marked_true (word s.memory w % 2) (sym read ∙ on) in
     omega arith
 
-pub uncounts_can : (c : Context) (places : List ℕ) (s : CountedSpace) (w : ℕ) (rest : List ℕ) (b : Bool) → Uncounts c places s (w ∷ rest) → IsPlaceWord w → b ≡ nat_eq (word s.memory w % 2) 1 → b ≡ true → CanUncountAt s w
+pub uncounts_can : (c : Context) (places : List ℕ) (s : CountedSpace) (w : ℕ) (rest : List ℕ) (b : Bool) → Uncounts c places s (w ∷ rest) → IsCountingPlace w → b ≡ nat_eq (word s.memory w % 2) 1 → b ≡ true → CanUncountAt s w
 uncounts_can c places s w rest b u is read on =
     let can = freeing_can_uncount c.graph u.view w rest u.freeing (bit_on c places s w rest b u is read on) in
     record { context = c; view = u.view; at = u.at; held = occ-In w u.view.places can.held; named = can.named; more = can.more }
 
-pub uncounts_takes : (c : Context) (places : List ℕ) (s s' : CountedSpace) (w : ℕ) (rest : List ℕ) (b : Bool) → Uncounts c places s (w ∷ rest) → IsPlaceWord w → b ≡ nat_eq (word s.memory w % 2) 1 → b ≡ true
+pub uncounts_takes : (c : Context) (places : List ℕ) (s s' : CountedSpace) (w : ℕ) (rest : List ℕ) (b : Bool) → Uncounts c places s (w ∷ rest) → IsCountingPlace w → b ≡ nat_eq (word s.memory w % 2) 1 → b ≡ true
     → ((o : Context) (v : View) → At o v s → In w v.places → 0 < v.counted w → 1 < count_of v w → At o (uncounted v w) s')
     → ((o : Context) (v : View) → At o v s → In w v.places → (p : ℕ) → In p o.graph.places → word s'.memory p ≡ word s.memory p) → Uncounts c places s' rest
 uncounts_takes c places s s' w rest b u is read on takes kinds =
@@ -77,13 +77,13 @@ uncounts_over c places s w rest u none = record {
   bits = u.bits;
 }
 
-pub uncounts_passes : (c : Context) (places : List ℕ) (s : CountedSpace) (w : ℕ) (rest : List ℕ) (b : Bool) → Uncounts c places s (w ∷ rest) → IsPlaceWord w → b ≡ nat_eq (word s.memory w % 2) 1 → b ≡ false → Uncounts c places s rest
+pub uncounts_passes : (c : Context) (places : List ℕ) (s : CountedSpace) (w : ℕ) (rest : List ℕ) (b : Bool) → Uncounts c places s (w ∷ rest) → IsCountingPlace w → b ≡ nat_eq (word s.memory w % 2) 1 → b ≡ false → Uncounts c places s rest
 uncounts_passes c places s w rest b u is read off =
     let bit = u.bits w (place_in c w (u.known w here) is) in
     let bit_zero = unmarked_read (word s.memory w % 2) (sym read ∙ off) (omega arith) in
     uncounts_over c places s w rest u (omega arith)
 
-pub uncounts_skips : (c : Context) (places : List ℕ) (s : CountedSpace) (w : ℕ) (rest : List ℕ) → Uncounts c places s (w ∷ rest) → (IsPlaceWord w → ⊥) → Uncounts c places s rest
+pub uncounts_skips : (c : Context) (places : List ℕ) (s : CountedSpace) (w : ℕ) (rest : List ℕ) → Uncounts c places s (w ∷ rest) → (IsCountingPlace w → ⊥) → Uncounts c places s rest
 uncounts_skips c places s w rest u isnt =
     let none = no_place c w u.at.start isnt in
     let m = u.freeing.is_view.marked w in
@@ -105,13 +105,13 @@ garbage_room D types s now x can =
     let f = garbage_fresh D can.context can.before now can.places s x q can.held can.fresh in
     (object_room can.context s.memory x q.at.start q.at.intact f.1.0).0
 
-pub garbage_kind : (D : Type 0) (types : List Declaration) (s : CountedSpace) (now : finite.FinMap nat_cmp D) (x : ℕ) → CanFreeGarbage D types s now x → IsOfKind (kind_at s.memory x) (word s.memory x)
+pub garbage_kind : (D : Type 0) (types : List Declaration) (s : CountedSpace) (now : finite.FinMap nat_cmp D) (x : ℕ) → CanFreeGarbage D types s now x → IsOfKind (counting_kind_at s.memory x) (word s.memory x)
 garbage_kind D types s now x can =
     let q = can.garbage in
     let f = garbage_fresh D can.context can.before now can.places s x q can.held can.fresh in
     kind_part_same can.context s.memory x q.at.start q.at.intact f.1.0
 
-pub garbage_external : (D : Type 0) (types : List Declaration) (s : CountedSpace) (now : finite.FinMap nat_cmp D) (x : ℕ) → CanFreeGarbage D types s now x → kind_at s.memory x ≡ ExternRef → x + 32 ≤ length s.memory
+pub garbage_external : (D : Type 0) (types : List Declaration) (s : CountedSpace) (now : finite.FinMap nat_cmp D) (x : ℕ) → CanFreeGarbage D types s now x → counting_kind_at s.memory x ≡ ExternRef → x + 32 ≤ length s.memory
 garbage_external D types s now x can is =
     let q = can.garbage in
     let f = garbage_fresh D can.context can.before now can.places s x q can.held can.fresh in
@@ -282,7 +282,7 @@ next_behind sizes low end q (h ∷ ps) le up (there i) =
     subst (λ o. IsNext (h ∷ ps) end from (past o from)) (sym skip) (more_next h ps end from (past (run_at from rest) from) (omega arith) n)
 
 -- the end of the managed places
-pub end_is : (v : View) (s : CountedSpace) → Holds v s → places_end s.free.space.capacity ≡ walk_end s
+pub end_is : (v : View) (s : CountedSpace) → HoldsBlocks v s → places_end s.free.space.capacity ≡ walk_end s
 end_is v s h =
     let bound = h.bound in
     let capacity = h.capacity in
@@ -374,7 +374,7 @@ garbage_goes D c before old now places s s' x i q q' =
 
 -- THE LOOP
 
-block_fits : (D : Type 0) (c : Context) (before now : finite.FinMap nat_cmp D) (places : List ℕ) (s : CountedSpace) (x : ℕ) (q : Garbage D c before places s now) → In x places → block_of (size_at s.memory x) ≡ block_of (q.view.sizes x)
+block_fits : (D : Type 0) (c : Context) (before now : finite.FinMap nat_cmp D) (places : List ℕ) (s : CountedSpace) (x : ℕ) (q : Garbage D c before places s now) → In x places → block_of (counting_size_at s.memory x) ≡ block_of (q.view.sizes x)
 block_fits D c before now places s x q i = ap block_of (q.at.holds.objects x (subst (λ (ps : List ℕ). In x ps) (sym q.places_are) i)).size_is
 
 -- where the first object lies
@@ -404,7 +404,7 @@ walk_release D types s s' old now end place walks h can =
     record { context = can.context; view = w.garbage.view; at = w.garbage.at; held = subst (λ (ps : List ℕ). In place ps) (sym w.garbage.places_are) i }
 
 pub walk_can : (D : Type 0) (types : List Declaration) (s s' : CountedSpace) (old now : finite.FinMap nat_cmp D) (end place from : ℕ) → Walks types s old s' now end place → place < end → 16 ≤ end
-    → from ≡ place + block_of (size_at s'.memory place) → CanFreeUnmarked D types s old → CanWalk s' from
+    → from ≡ place + block_of (counting_size_at s'.memory place) → CanFreeUnmarked D types s old → CanWalk s' from
 walk_can D types s s' old now end place from walks h some e can =
     let w = walks can.context can.before can.places can.typed can.garbage in
     let i = walk_held D can.context can.before now s' end place w h in
@@ -437,7 +437,7 @@ end_stays : (D : Type 0) (c : Context) (before old now : finite.FinMap nat_cmp D
 end_stays D c before old now places left s s' q q' = ap (λ (n : ℕ). n / 16 * 16) (q'.at.intact.same_length ∙ sym q.at.intact.same_length)
 
 pub walk_on : (D : Type 0) (types : List Declaration) (s s1 s2 : CountedSpace) (old mid now : finite.FinMap nat_cmp D) (end place from next : ℕ) → Walks types s old s1 mid end place → place < end
-    → from ≡ place + block_of (size_at s1.memory place)
+    → from ≡ place + block_of (counting_size_at s1.memory place)
     → ((c : Context) (v : View) → At c v s1 → IsBorder v from → IsNext v.places (walk_end s1) from next)
     → ((c : Context) (before : finite.FinMap nat_cmp D) (places : List ℕ) → c.types ≡ types → In place places → Garbage D c before places s1 mid → SweepsGarbage D c before places place s2 now)
     → Walks types s old s2 now end next
@@ -467,7 +467,7 @@ walk_on D types s s1 s2 old mid now end place from next walks h e next_is sweeps
           let was = swept.part p j in
           let held_p = subst (λ (ps : List ℕ). In p ps) (sym q.places_are) was in
           elim (cases_eq p place) [
-            | inl is_place ↦ subst (λ (z : ℕ). Reached c.graph z) (sym is_place) (swept.itself (subst (λ (z : ℕ). In z swept.left) is_place j))
+            | inl is_place ↦ subst (λ (z : ℕ). CountingReached c.graph z) (sym is_place) (swept.itself (subst (λ (z : ℕ). In z swept.left) is_place j))
             | inr ne ↦ elim (cases_lt p place) [
               | inl low ↦ w.walked p was low
               | inr high ↦ (
@@ -516,7 +516,7 @@ first_walk D types s now end is some can = record { context = can.context; view 
 
 -- each step of the walk goes on
 pub walk_less : (D : Type 0) (types : List Declaration) (s s1 : CountedSpace) (old mid : finite.FinMap nat_cmp D) (end place from next : ℕ) → Walks types s old s1 mid end place → place < end
-    → from ≡ place + block_of (size_at s1.memory place)
+    → from ≡ place + block_of (counting_size_at s1.memory place)
     → ((c : Context) (v : View) → At c v s1 → IsBorder v from → IsNext v.places (walk_end s1) from next)
     → CanFreeUnmarked D types s old → end - next < end - place
 walk_less D types s s1 old mid end place from next walks h e next_is can =

@@ -6,7 +6,7 @@ use Rattle.std.specs.Ordering.{nat_cmp}
 use Rattle.gc_types.specs.Declarations.{Declaration}
 use Rattle.gc_memory.specs.Lists.{In, occ}
 use Rattle.gc_drc.specs.declared.space.CountedSpace.{CountedSpace}
-use Rattle.gc_drc.specs.Graph.{Reached}
+use Rattle.gc_drc.specs.Graph.{CountingReached}
 use Rattle.gc_drc.specs.View.{View}
 use Rattle.gc_drc.specs.CollectStates.{Done}
 use Rattle.gc_drc.specs.CollectMemory.{Context, At}
@@ -18,7 +18,7 @@ pub record Walk (D : Type 0) (c : Context) (before : finite.FinMap nat_cmp D) (s
   pub places : List ℕ
   pub garbage : Garbage D c before places s now
   pub is_at : (place ≡ end) ⊎ In place places
-  pub walked : (p : ℕ) → In p places → p < place → Reached c.graph p
+  pub walked : (p : ℕ) → In p places → p < place → CountingReached c.graph p
   pub end_is : walk_end s ≡ end
 
 -- a walk that began there has come to here

@@ -3,8 +3,8 @@ use Rattle.gc_heap.specs.declared.backing.Backing as place
 use Rattle.gc_drc.specs.declared.growth.Marks.{Marks}
 use Rattle.gc_drc.specs.declared.space.CountedSpace.{CountedSpace}
 
-abbrev pub Backing : Type 0
-Backing = place.Backing CountedSpace Marks
+abbrev pub CountingBacking : Type 0
+CountingBacking = place.Backing CountedSpace Marks
 
-abbrev pub marks_of : CountedSpace → Marks
-marks_of s = record { free = s.free; shown = s.shown; queued = s.queued; objects = s.objects; allocated = s.allocated }
+abbrev pub counting_marks_of : CountedSpace → Marks
+counting_marks_of s = record { free = s.free; shown = s.shown; queued = s.queued; objects = s.objects; allocated = s.allocated }

@@ -9,11 +9,11 @@ use Rattle.gc_drc.specs.declared.space.CountedSpace.{CountedSpace}
 use Rattle.gc_drc.specs.View.{View}
 use Rattle.gc_drc.specs.Content.{places_of}
 use Rattle.gc_drc.specs.CollectStates.{Draining}
-use Rattle.gc_drc.specs.CollectMemory.{Context, IsWord, At}
+use Rattle.gc_drc.specs.CollectMemory.{Context, IsCountingWord, At}
 use Rattle.gc_drc.specs.CollectHosts.{HostsLeft}
 
 -- the word of a place
-pub record IsPlaceWord (w : ℕ) : Type 0 where
+pub record IsCountingPlace (w : ℕ) : Type 0 where
   pub not_null : 0 < w
   pub even : w % 2 ≡ 0
 
@@ -23,7 +23,7 @@ pub record Lowering (c : Context) (places : List ℕ) (s : CountedSpace) (words 
   pub at : At c view s
   pub draining : Draining c.graph view words
   pub places_are : view.places ≡ places
-  pub known : (w : ℕ) → In w words → IsWord c w
+  pub known : (w : ℕ) → In w words → IsCountingWord c w
 
 -- What is queued is being freed, and nothing is to be lowered just now.
 pub record Drain (D : Type 0) (c : Context) (before : finite.FinMap nat_cmp D) (s : CountedSpace) (now : finite.FinMap nat_cmp D) : Type 0 where

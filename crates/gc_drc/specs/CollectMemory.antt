@@ -16,17 +16,17 @@ use Rattle.gc_drc.specs.declared.space.CountedSpace.{CountedSpace}
 use Rattle.gc_free.specs.Runs.{run}
 use Rattle.gc_free.specs.Space.{IsSound, give}
 use Rattle.gc_view.specs.Bytes.{put_u32}
-use Rattle.gc_drc.specs.Layout.{size_at, block_of, kind_at, IsExternalAt}
+use Rattle.gc_drc.specs.Layout.{counting_size_at, block_of, counting_kind_at, HasCountingHost}
 use Rattle.gc_drc.specs.CollectLists.{onto, front}
-use Rattle.gc_drc.specs.View.{View, Holds, count_of}
-use Rattle.gc_drc.specs.Graph.{Graph}
+use Rattle.gc_drc.specs.View.{View, HoldsBlocks, count_of}
+use Rattle.gc_drc.specs.Graph.{CountedGraph}
 
 -- the offsets of the references of an object of that trace info whose data begins with a number
-abbrev pub traced_offsets : Option TraceInfo → ℕ → List ℕ
-traced_offsets None count = []
-traced_offsets (Some (trace.Struct offsets)) count = offsets
-traced_offsets (Some (trace.Array true)) count = word_offsets 32 count
-traced_offsets (Some (trace.Array false)) count = []
+abbrev pub offsets_by_info : Option TraceInfo → ℕ → List ℕ
+offsets_by_info None count = []
+offsets_by_info (Some (trace.Struct offsets)) count = offsets
+offsets_by_info (Some (trace.Array true)) count = word_offsets 32 count
+offsets_by_info (Some (trace.Array false)) count = []
 
 -- the trace info of an object of that kind and of a type with that info; an external object has none
 abbrev pub info_of : VMGcKind → Option TraceInfo → Option TraceInfo
@@ -38,11 +38,11 @@ info_of ArrayRef info = info
 info_of ExnRef info = info
 
 abbrev pub info_at : List Declaration → List ℕ → ℕ → Option TraceInfo
-info_at types bytes p = info_of (kind_at bytes p) (trace_at Counting types (word bytes (p + 4)))
+info_at types bytes p = info_of (counting_kind_at bytes p) (trace_at Counting types (word bytes (p + 4)))
 
 -- the offsets of the references of the object at a place
-abbrev pub offsets_at : List Declaration → List ℕ → ℕ → List ℕ
-offsets_at types bytes p = traced_offsets (info_at types bytes p) (word bytes (p + 28))
+abbrev pub counting_offsets_at : List Declaration → List ℕ → ℕ → List ℕ
+counting_offsets_at types bytes p = offsets_by_info (info_at types bytes p) (word bytes (p + 28))
 
 -- the words at some offsets of what lies at a place
 abbrev pub words_at : List ℕ → ℕ → List ℕ → List ℕ
@@ -50,41 +50,41 @@ words_at bytes p offsets = map (λ (o : ℕ). word bytes (p + o)) offsets
 
 -- Where a collection begins: what names what, the memory, and the types.
 pub record Context : Type 0 where
-  pub graph : Graph
+  pub graph : CountedGraph
   pub memory : List ℕ
   pub types : List Declaration
 
 -- a word of a root or a field: null, a 31-bit number, or the place of an object
-abbrev pub IsWord : Context → ℕ → Type 0
-IsWord c w = (w ≡ 0) ⊎ ((w % 2 ≡ 1) ⊎ In w c.graph.places)
+abbrev pub IsCountingWord : Context → ℕ → Type 0
+IsCountingWord c w = (w ≡ 0) ⊎ ((w % 2 ≡ 1) ⊎ In w c.graph.places)
 
 -- an object lies whole in the memory
-pub record LiesAt (bytes : List ℕ) (p : ℕ) : Type 0 where
+pub record LiesWhole (bytes : List ℕ) (p : ℕ) : Type 0 where
   pub aligned : p % 16 ≡ 0
   pub not_null : 0 < p
-  pub least : 28 ≤ size_at bytes p
-  pub inside : p + size_at bytes p ≤ length bytes
+  pub least : 28 ≤ counting_size_at bytes p
+  pub inside : p + counting_size_at bytes p ≤ length bytes
 
 -- A collection may begin there.
 pub record IsContext (c : Context) : Type 0 where
   pub small : length c.memory < 2 ^ 32
-  pub lies : (p : ℕ) → In p c.graph.places → LiesAt c.memory p
-  pub kinds : (p : ℕ) → In p c.graph.places → IsOfKind (kind_at c.memory p) (word c.memory p)
-  pub apart : (p q : ℕ) → In p c.graph.places → In q c.graph.places → p < q → p + size_at c.memory p ≤ q
-  pub words : (p : ℕ) → In p c.graph.places → c.graph.words p ≡ words_at c.memory p (offsets_at c.types c.memory p)
-  pub offsets : (p o : ℕ) → In p c.graph.places → In o (offsets_at c.types c.memory p) → (28 ≤ o) × (o + 4 ≤ size_at c.memory p)
-  pub arrays : (p : ℕ) (elements : Bool) → In p c.graph.places → info_at c.types c.memory p ≡ Some (trace.Array elements) → 32 ≤ size_at c.memory p
-  pub externals : (p : ℕ) → In p c.graph.places → kind_at c.memory p ≡ ExternRef → IsExternalAt c.memory p
-  pub fields : (p w : ℕ) → In p c.graph.places → In w (c.graph.words p) → IsWord c w
-  pub roots : (w : ℕ) → In w c.graph.roots → IsWord c w
-  pub frames : (w : ℕ) → In w c.graph.frames → IsWord c w
+  pub lies : (p : ℕ) → In p c.graph.places → LiesWhole c.memory p
+  pub kinds : (p : ℕ) → In p c.graph.places → IsOfKind (counting_kind_at c.memory p) (word c.memory p)
+  pub apart : (p q : ℕ) → In p c.graph.places → In q c.graph.places → p < q → p + counting_size_at c.memory p ≤ q
+  pub words : (p : ℕ) → In p c.graph.places → c.graph.words p ≡ words_at c.memory p (counting_offsets_at c.types c.memory p)
+  pub offsets : (p o : ℕ) → In p c.graph.places → In o (counting_offsets_at c.types c.memory p) → (28 ≤ o) × (o + 4 ≤ counting_size_at c.memory p)
+  pub arrays : (p : ℕ) (elements : Bool) → In p c.graph.places → info_at c.types c.memory p ≡ Some (trace.Array elements) → 32 ≤ counting_size_at c.memory p
+  pub externals : (p : ℕ) → In p c.graph.places → counting_kind_at c.memory p ≡ ExternRef → HasCountingHost c.memory p
+  pub fields : (p w : ℕ) → In p c.graph.places → In w (c.graph.words p) → IsCountingWord c w
+  pub roots : (w : ℕ) → In w c.graph.roots → IsCountingWord c w
+  pub frames : (w : ℕ) → In w c.graph.frames → IsCountingWord c w
 
 -- An object is as it was but for its flags, its count and its links.
 pub record SameObject (before after : List ℕ) (p : ℕ) : Type 0 where
   pub kind : word after p / 8 ≡ word before p / 8
   pub ty : word after (p + 4) ≡ word before (p + 4)
-  pub size : size_at after p ≡ size_at before p
-  pub bytes : SameBytes before after (p + 28) (p + size_at before p)
+  pub size : counting_size_at after p ≡ counting_size_at before p
+  pub bytes : SameBytes before after (p + 28) (p + counting_size_at before p)
 
 -- Each object of the start is so, also where it was freed.
 pub record Intact (c : Context) (after : List ℕ) : Type 0 where
@@ -94,7 +94,7 @@ pub record Intact (c : Context) (after : List ℕ) : Type 0 where
 -- The heap shows a view in the middle of a collection that began there.
 pub record At (c : Context) (v : View) (s : CountedSpace) : Type 0 where
   pub start : IsContext c
-  pub holds : Holds v s
+  pub holds : HoldsBlocks v s
   pub intact : Intact c s.memory
   pub from : (p : ℕ) → In p v.places → In p c.graph.places
 
@@ -138,12 +138,12 @@ pub record CanRelease (s : CountedSpace) (x : ℕ) : Type 0 where
   pub held : In x view.places
 
 -- The block of an object was given back, and nothing else changed.
-pub record Releases (s s' : CountedSpace) (x : ℕ) : Type 0 where
+pub record ReleasesBlock (s s' : CountedSpace) (x : ℕ) : Type 0 where
   pub memory : s'.memory ≡ s.memory
-  pub space : s'.free.space ≡ give (run x (block_of (size_at s.memory x))) s.free.space
+  pub space : s'.free.space ≡ give (run x (block_of (counting_size_at s.memory x))) s.free.space
   pub sound : IsSound s'.free.space
   pub objects : s'.objects + 1 ≡ s.objects
-  pub allocated : s'.allocated + block_of (size_at s.memory x) ≡ s.allocated
+  pub allocated : s'.allocated + block_of (counting_size_at s.memory x) ≡ s.allocated
   pub shown : s'.shown ≡ s.shown
   pub queued : s'.queued ≡ s.queued
 

@@ -13,8 +13,8 @@ without_one x [] = []
 without_one x (y ∷ ys) = cond (nat_eq x y) ys (y ∷ without_one x ys)
 
 -- One name less. An object whose count word would come to 0 is queued, so that the word stays.
-abbrev pub lowered : View → ℕ → View
-lowered v x = record v {
+abbrev pub uncounted_or_queued : View → ℕ → View
+uncounted_or_queued v x = record v {
   counted = λ (y : ℕ). v.counted y - same y x;
   queue = cond (nat_eq (count_of v x) 1) (x ∷ v.queue) v.queue;
 }
@@ -24,8 +24,8 @@ abbrev pub uncounted : View → ℕ → View
 uncounted v x = record v { counted = λ (y : ℕ). v.counted y - same y x }
 
 -- off the list of shown words, whose share of the count is a name then
-abbrev pub hidden : View → ℕ → View
-hidden v x = record v { shown = without_one x v.shown; counted = λ (y : ℕ). v.counted y + same y x }
+abbrev pub unshown : View → ℕ → View
+unshown v x = record v { shown = without_one x v.shown; counted = λ (y : ℕ). v.counted y + same y x }
 
 abbrev pub marked_also : View → ℕ → View
 marked_also v x = record v { marked = x ∷ v.marked }

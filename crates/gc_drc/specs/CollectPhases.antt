@@ -21,8 +21,8 @@ increments_before phase.FreeUnreached = 2
 increments_before phase.Done = 3
 
 -- what is left of a collection: each increment makes it less
-abbrev pub left_of : Phase → ℕ
-left_of at = 3 - increments_before at
+abbrev pub increments_left : Phase → ℕ
+increments_left at = 3 - increments_before at
 
 -- No increment was done.
 pub record Untouched (c : Context) (before : ℕ → Bool) (s : CountedSpace) (now : ℕ → Bool) : Type 0 where
@@ -44,13 +44,13 @@ pub record UnheldFreed (c : Context) (before : ℕ → Bool) (s : CountedSpace) 
   pub kept : (p : ℕ) → In p places → Unheld c.graph p → ⊥
 
 -- where a collection stands that began there, by what its next increment does
-abbrev pub StandsAt : Context → (ℕ → Bool) → Phase → CountedSpace → (ℕ → Bool) → Type 0
-StandsAt c before phase.MarkFrames s now = Untouched c before s now
-StandsAt c before phase.FreeUnheld s now = FramesMarked c before s now
-StandsAt c before phase.FreeUnreached s now = UnheldFreed c before s now
-StandsAt c before phase.Done s now = ⊥
+abbrev pub CountingStandsAt : Context → (ℕ → Bool) → Phase → CountedSpace → (ℕ → Bool) → Type 0
+CountingStandsAt c before phase.MarkFrames s now = Untouched c before s now
+CountingStandsAt c before phase.FreeUnheld s now = FramesMarked c before s now
+CountingStandsAt c before phase.FreeUnreached s now = UnheldFreed c before s now
+CountingStandsAt c before phase.Done s now = ⊥
 
 -- What an increment answers and leaves: it goes on with the next phase, or it was the third and last one.
 abbrev pub StepsOn : Context → (ℕ → Bool) → GcProgress → Phase → Phase → CountedSpace → (ℕ → Bool) → Type 0
-StepsOn c before progress.Continue old new s now = (increments_before new ≡ increments_before old + 1) × StandsAt c before new s now
+StepsOn c before progress.Continue old new s now = (increments_before new ≡ increments_before old + 1) × CountingStandsAt c before new s now
 StepsOn c before progress.Complete old new s now = (increments_before old + 1 ≡ 3) × ((v : View) × Ends c v s before now)

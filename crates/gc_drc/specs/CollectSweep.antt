@@ -33,7 +33,7 @@ pub record Sweep (c : Context) (s : CountedSpace) (kept left : List ℕ) : Type 
   pub list : view.shown ≡ onto kept left
   pub all_held : view.places ≡ c.graph.places
 
-pub record CanSweepOne (s : CountedSpace) (before x : ℕ) : Type 0 where
+pub record CanSweepShown (s : CountedSpace) (before x : ℕ) : Type 0 where
   pub context : Context
   pub kept : List ℕ
   pub left : List ℕ

@@ -7,12 +7,12 @@ use Rattle.gc_memory.specs.Lists.{In, occ, sum_over}
 use Rattle.gc_drc.specs.declared.space.CountedSpace.{CountedSpace}
 use Rattle.gc_drc.specs.View.{View, Linked}
 use Rattle.gc_drc.specs.Content.{places_of}
-use Rattle.gc_drc.specs.Graph.{Graph}
+use Rattle.gc_drc.specs.Graph.{CountedGraph}
 use Rattle.gc_drc.specs.CollectStates.{IsView, Cascading, Tracing}
-use Rattle.gc_drc.specs.CollectMemory.{Context, IsWord, At}
+use Rattle.gc_drc.specs.CollectMemory.{Context, IsCountingWord, At}
 
 -- The counts are the names, only frame slots are shown, and nothing is queued; all objects of the start are held.
-pub record Settled (g : Graph) (v : View) : Type 0 where
+pub record Settled (g : CountedGraph) (v : View) : Type 0 where
   pub is_view : IsView v
   pub cascading : Cascading g v []
   pub shown_frames : (x : ℕ) → 0 < occ x v.shown → 0 < occ x g.frames
@@ -28,7 +28,7 @@ pub record Traces (c : Context) (unscanned : List ℕ) (s : CountedSpace) (head 
   pub work : List ℕ
   pub tracing : Tracing c.graph view pending work
   pub linked : Linked s.memory 24 head work
-  pub known : (w : ℕ) → In w pending → IsWord c w
+  pub known : (w : ℕ) → In w pending → IsCountingWord c w
   pub fresh_is : sum_over (λ p. 1 - occ p view.marked) view.places ≡ fresh
   pub left_is : fresh + length work ≡ length unscanned
 
@@ -46,17 +46,17 @@ abbrev pub trace_left : CountedSpace → ℕ → ℕ
 trace_left s head = fresh_in s + chain_length s.objects s.memory head
 
 -- the next object may be scanned
-pub record CanScan (types : List Declaration) (s : CountedSpace) (head fresh : ℕ) : Type 0 where
+pub record CanScanNext (types : List Declaration) (s : CountedSpace) (head fresh : ℕ) : Type 0 where
   pub context : Context
   pub unscanned : List ℕ
   pub typed : context.types ≡ types
   pub traces : Traces context unscanned s head fresh []
 
 -- the words of some roots
-abbrev pub root_words : List Root → List ℕ
-root_words roots = map (λ (r : Root). r.word) roots
+abbrev pub words_in_roots : List Root → List ℕ
+words_in_roots roots = map (λ (r : Root). r.word) roots
 
 -- the words of roots were looked at, of which these are left
 abbrev pub TracesRoots : CountedSpace → ℕ → ℕ → List Root → CountedSpace → ℕ → ℕ → List Root → Type 0
 TracesRoots s head fresh roots s' head' fresh' left =
-    (c : Context) (unscanned : List ℕ) → Traces c unscanned s head fresh (root_words roots) → Traces c unscanned s' head' fresh' (root_words left)
+    (c : Context) (unscanned : List ℕ) → Traces c unscanned s head fresh (words_in_roots roots) → Traces c unscanned s' head' fresh' (words_in_roots left)

@@ -4,13 +4,13 @@ use Rattle.gc_types.specs.Declarations.{Declaration}
 use Rattle.gc_memory.specs.Lists.{In}
 use Rattle.gc_memory.specs.Words.{word}
 use Rattle.gc_heap.specs.References.{word_offsets}
-use Rattle.gc_drc.specs.Layout.{size_at}
+use Rattle.gc_drc.specs.Layout.{counting_size_at}
 use Rattle.gc_drc.specs.CollectMemory.{Context, words_at}
 
 -- offsets of words inside an object's data
 pub record InObject (c : Context) (place : ℕ) (offsets : List ℕ) : Type 0 where
   pub place_in : In place c.graph.places
-  pub inside : (o : ℕ) → In o offsets → (28 ≤ o) × (o + 4 ≤ size_at c.memory place)
+  pub inside : (o : ℕ) → In o offsets → (28 ≤ o) × (o + 4 ≤ counting_size_at c.memory place)
 
 -- the words at these offsets of an object are to be visited
 pub record CanVisit (state : Context → List ℕ → List ℕ → Type 0) (place : ℕ) (offsets : List ℕ) : Type 0 where
@@ -39,12 +39,12 @@ pub record CanVisitArray (state : Context → List ℕ → List ℕ → Type 0) 
   pub context : Context
   pub places : List ℕ
   pub object : InObject context place (array_offsets elements context.memory place)
-  pub is_array : 32 ≤ size_at context.memory place
+  pub is_array : 32 ≤ counting_size_at context.memory place
   pub is : state context places (words_at context.memory place (array_offsets elements context.memory place))
 
 -- they were visited
 abbrev pub VisitsArray : (Context → List ℕ → List ℕ → Type 0) → (Context → List ℕ → List ℕ → Type 0) → ℕ → Bool → Type 0
-VisitsArray old new place elements = (c : Context) (places : List ℕ) → InObject c place (array_offsets elements c.memory place) → 32 ≤ size_at c.memory place
+VisitsArray old new place elements = (c : Context) (places : List ℕ) → InObject c place (array_offsets elements c.memory place) → 32 ≤ counting_size_at c.memory place
     → old c places (words_at c.memory place (array_offsets elements c.memory place)) → new c places []
 
 -- the words of all references of an object are to be visited

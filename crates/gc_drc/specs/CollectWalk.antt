@@ -7,10 +7,10 @@ use Rattle.gc_memory.specs.Words.{word}
 use Rattle.gc_memory.specs.Lists.{In, occ}
 use Rattle.gc_drc.specs.declared.space.CountedSpace.{CountedSpace}
 use Rattle.gc_drc.specs.Layout.{block_of}
-use Rattle.gc_drc.specs.Graph.{Reached}
+use Rattle.gc_drc.specs.Graph.{CountingReached}
 use Rattle.gc_drc.specs.View.{View}
 use Rattle.gc_drc.specs.CollectStates.{Freeing}
-use Rattle.gc_drc.specs.CollectMemory.{Context, IsWord, At}
+use Rattle.gc_drc.specs.CollectMemory.{Context, IsCountingWord, At}
 use Rattle.gc_drc.specs.CollectHosts.{HostsLeft}
 
 -- the mark bit of each object of the start says whether it is marked, also where it was freed
@@ -23,7 +23,7 @@ pub record Uncounts (c : Context) (places : List ℕ) (s : CountedSpace) (words 
   pub at : At c view s
   pub freeing : Freeing c.graph view words
   pub places_are : view.places ≡ places
-  pub known : (w : ℕ) → In w words → IsWord c w
+  pub known : (w : ℕ) → In w words → IsCountingWord c w
   pub bits : BitsAre c view s.memory
 
 -- What isn't marked is being freed; these places are still held.
@@ -82,7 +82,7 @@ pub record SweepsGarbage (D : Type 0) (c : Context) (before : finite.FinMap nat_
   pub garbage : Garbage D c before left s now
   pub part : (p : ℕ) → In p left → In p places
   pub others : (p : ℕ) → In p places → (p ≡ x → ⊥) → In p left
-  pub itself : In x left → Reached c.graph x
+  pub itself : In x left → CountingReached c.graph x
 
 -- what isn't marked may be freed
 pub record CanFreeUnmarked (D : Type 0) (types : List Declaration) (s : CountedSpace) (now : finite.FinMap nat_cmp D) : Type 0 where
@@ -96,4 +96,4 @@ pub record CanFreeUnmarked (D : Type 0) (types : List Declaration) (s : CountedS
 pub record FreedUnmarked (D : Type 0) (c : Context) (before : finite.FinMap nat_cmp D) (s : CountedSpace) (now : finite.FinMap nat_cmp D) : Type 0 where
   pub places : List ℕ
   pub garbage : Garbage D c before places s now
-  pub all_reached : (p : ℕ) → In p places → Reached c.graph p
+  pub all_reached : (p : ℕ) → In p places → CountingReached c.graph p

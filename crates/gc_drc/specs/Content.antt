@@ -6,8 +6,8 @@ use Rattle.std.specs.FinSet as finset
 use Rattle.gc_view.specs.Heaps.{HeapView, Counts, detached_in}
 use Rattle.gc_free.specs.declared.run.Run.{Run}
 use Rattle.gc_drc.specs.declared.space.CountedSpace.{CountedSpace}
-use Rattle.gc_drc.specs.Layout.{count_at, flags_at, object_at}
-use Rattle.gc_drc.specs.View.{View, Holds}
+use Rattle.gc_drc.specs.Layout.{count_at, flags_at, counting_object_at}
+use Rattle.gc_drc.specs.View.{View, HoldsBlocks}
 
 -- what a function gives at some places
 abbrev pub at_places : {X : Type 0} → (ℕ → X) → List ℕ → finite.FinMap nat_cmp X
@@ -37,10 +37,10 @@ counts_at bytes ps = record {
 }
 
 -- what is seen of a space of a heap with so many scopes
-abbrev pub seen_in : ℕ → CountedSpace → HeapView
-seen_in scopes s = record (detached_in scopes) {
+abbrev pub counting_seen_in : ℕ → CountedSpace → HeapView
+counting_seen_in scopes s = record (detached_in scopes) {
   attached = true;
-  content = at_places (object_at s.memory) (places_of s.free.space.held);
+  content = at_places (counting_object_at s.memory) (places_of s.free.space.held);
   capacity = length s.memory;
   allocated = s.allocated;
   counts = counts_at s.memory (places_of s.free.space.held);
@@ -49,5 +49,5 @@ seen_in scopes s = record (detached_in scopes) {
 -- the space is as it is outside a collection: it shows a view in which nothing is marked
 pub record IsSoundSpace (s : CountedSpace) : Type 0 where
   pub view : View
-  pub holds : Holds view s
+  pub holds : HoldsBlocks view s
   pub unmarked : view.marked ≡ []

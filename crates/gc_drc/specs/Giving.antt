@@ -6,19 +6,19 @@ use Rattle.gc_memory.specs.Lists.{In, occ}
 use Rattle.gc_view.specs.Heaps.{HeapObject}
 use Rattle.gc_heap.specs.Heap.{given_back}
 use Rattle.gc_drc.specs.declared.space.CountedSpace.{CountedSpace}
-use Rattle.gc_drc.specs.View.{View, Holds}
-use Rattle.gc_drc.specs.Content.{seen_in, IsSoundSpace}
+use Rattle.gc_drc.specs.View.{View, HoldsBlocks}
+use Rattle.gc_drc.specs.Content.{counting_seen_in, IsSoundSpace}
 
 -- An object that is on no list stands at a place.
-pub record CanGive (s : CountedSpace) (x : ℕ) : Type 0 where
+pub record IsUnlisted (s : CountedSpace) (x : ℕ) : Type 0 where
   pub view : View
-  pub holds : Holds view s
+  pub holds : HoldsBlocks view s
   pub unmarked : view.marked ≡ []
   pub place : In x view.places
   pub not_shown : occ x view.shown ≡ 0
   pub not_queued : occ x view.queue ≡ 0
 
 -- the object at a place was given back
-pub record Gives (before after : CountedSpace) (x : ℕ) : Type 0 where
+pub record GivesBack (before after : CountedSpace) (x : ℕ) : Type 0 where
   pub sound : IsSoundSpace after
-  pub seen : (scopes : ℕ) (o : HeapObject) → finite.get (seen_in scopes before).content x ≡ Some o → seen_in scopes after ≡ given_back Counting (seen_in scopes before) x o
+  pub seen : (scopes : ℕ) (o : HeapObject) → finite.get (counting_seen_in scopes before).content x ≡ Some o → counting_seen_in scopes after ≡ given_back Counting (counting_seen_in scopes before) x o

@@ -23,8 +23,8 @@ pub in_or_not : (q : ℕ) (ps : List ℕ) → In q ps ⊎ (In q ps → ⊥)
 in_or_not q ps = elim (cases_lt 0 (occ q ps)) [ inl h ↦ inl (occ-In q ps h) | inr h ↦ inr (λ i. let some = In-occ q ps i in omega arith) ]
 
 module _ {X : Type 0} (f : ℕ → X) where
-  abbrev entries : List ℕ → List (ℕ × X)
-  entries ps = map (λ (p : ℕ). (p, f p)) ps
+  abbrev block_entries : List ℕ → List (ℕ × X)
+  block_entries ps = map (λ (p : ℕ). (p, f p)) ps
 
   find_tied : (q : ℕ) (es : List (ℕ × X)) → finite.find nat_cmp q ((q, f q) ∷ es) ≡ Some (f q)
   find_tied q es = ap (λ b. cond b (Some (f q)) (finite.find nat_cmp q es)) (unsigned_tied q q ∙ eq-eqb q q refl)
@@ -32,25 +32,25 @@ module _ {X : Type 0} (f : ℕ → X) where
   find_other : (q p : ℕ) (es : List (ℕ × X)) → (q ≡ p → ⊥) → finite.find nat_cmp q ((p, f p) ∷ es) ≡ finite.find nat_cmp q es
   find_other q p es ne = ap (λ b. cond b (Some (f p)) (finite.find nat_cmp q es)) (unsigned_tied q p ∙ ne_eqb q p ne)
 
-  find_in : (q : ℕ) (ps : List ℕ) → In q ps → finite.find nat_cmp q (entries ps) ≡ Some (f q)
+  find_in : (q : ℕ) (ps : List ℕ) → In q ps → finite.find nat_cmp q (block_entries ps) ≡ Some (f q)
   find_in q [] i = elim i [ ]
-  find_in q (_ ∷ ps) here = find_tied q (entries ps)
+  find_in q (_ ∷ ps) here = find_tied q (block_entries ps)
   find_in q (p ∷ ps) (there i) = elim (cases_eq q p) [
-    | inl e ↦ subst (λ k. finite.find nat_cmp q (entries (k ∷ ps)) ≡ Some (f q)) e (find_tied q (entries ps))
-    | inr ne ↦ find_other q p (entries ps) ne ∙ find_in q ps i
+    | inl e ↦ subst (λ k. finite.find nat_cmp q (block_entries (k ∷ ps)) ≡ Some (f q)) e (find_tied q (block_entries ps))
+    | inr ne ↦ find_other q p (block_entries ps) ne ∙ find_in q ps i
   ]
 
-  find_none : (q : ℕ) (ps : List ℕ) → (In q ps → ⊥) → finite.find nat_cmp q (entries ps) ≡ None
+  find_none : (q : ℕ) (ps : List ℕ) → (In q ps → ⊥) → finite.find nat_cmp q (block_entries ps) ≡ None
   find_none q [] none = refl
   find_none q (p ∷ ps) none =
-      find_other q p (entries ps) (λ e. none (subst (λ k. In q (k ∷ ps)) e here)) ∙ find_none q ps (λ i. none (there i))
+      find_other q p (block_entries ps) (λ e. none (subst (λ k. In q (k ∷ ps)) e here)) ∙ find_none q ps (λ i. none (there i))
 
   -- what lies at one of the places, and at none of them
   pub get_in : (q : ℕ) (ps : List ℕ) → In q ps → finite.get (at_places f ps) q ≡ Some (f q)
-  get_in q ps i = finite.get-from_entries nat_cmp_total (entries ps) q ∙ find_in q ps i
+  get_in q ps i = finite.get-from_entries nat_cmp_total (block_entries ps) q ∙ find_in q ps i
 
   pub get_none : (q : ℕ) (ps : List ℕ) → (In q ps → ⊥) → finite.get (at_places f ps) q ≡ None
-  get_none q ps none = finite.get-from_entries nat_cmp_total (entries ps) q ∙ find_none q ps none
+  get_none q ps none = finite.get-from_entries nat_cmp_total (block_entries ps) q ∙ find_none q ps none
 
   -- what is found lies at one of the places
   pub found_in : (q : ℕ) (x : X) (ps : List ℕ) → finite.get (at_places f ps) q ≡ Some x → In q ps × (x ≡ f q)
@@ -71,12 +71,12 @@ places-blocks sizes [] = refl
 places-blocks sizes (p ∷ ps) = ap (λ qs. p ∷ qs) (places-blocks sizes ps)
 
 -- where a block lies
-pub record LiesAt (sizes : ℕ → ℕ) (low high p : ℕ) : Type 0 where
+pub record BlockLies (sizes : ℕ → ℕ) (low high p : ℕ) : Type 0 where
   pub from : low ≤ p
   pub some : 0 < block_of (sizes p)
   pub to : p + block_of (sizes p) ≤ high
 
-pub spread-lies : (sizes : ℕ → ℕ) (low high p : ℕ) (ps : List ℕ) → IsSpread low high (map (block_at sizes) ps) → In p ps → LiesAt sizes low high p
+pub spread-lies : (sizes : ℕ → ℕ) (low high p : ℕ) (ps : List ℕ) → IsSpread low high (map (block_at sizes) ps) → In p ps → BlockLies sizes low high p
 spread-lies sizes low high p [] up i = elim i [ ]
 spread-lies sizes low high _ (p ∷ ps) up here = record { from = up.0; some = up.1; to = up.2 }
 spread-lies sizes low high q (p ∷ ps) up (there i) =
@@ -114,11 +114,11 @@ spread-total sizes low high (p ∷ ps) up =
     let rest = spread-sum sizes (p + block_of (sizes p)) high ps b up.3 in omega arith
 
 -- a sum over the objects is a sum over their places
-pub total-at : (g : HeapObject → ℕ) (f : ℕ → HeapObject) (sizes : ℕ → ℕ) (low high : ℕ) (ps : List ℕ) → IsSpread low high (map (block_at sizes) ps)
+pub total-at_places : (g : HeapObject → ℕ) (f : ℕ → HeapObject) (sizes : ℕ → ℕ) (low high : ℕ) (ps : List ℕ) → IsSpread low high (map (block_at sizes) ps)
     → total g (at_places f ps) ≡ sum_over (λ p. g (f p)) ps
-total-at g f sizes low high [] up = total-empty g
-total-at g f sizes low high (p ∷ ps) up =
-    let rest = total-at g f sizes (p + block_of (sizes p)) high ps up.3 in
+total-at_places g f sizes low high [] up = total-empty g
+total-at_places g f sizes low high (p ∷ ps) up =
+    let rest = total-at_places g f sizes (p + block_of (sizes p)) high ps up.3 in
     let none = get_none f p ps (spread-not_behind sizes low high p ps up) in
     omega (arith, total-insert g (at_places f ps) p (f p) none, rest)
 

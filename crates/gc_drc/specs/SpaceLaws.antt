@@ -18,13 +18,13 @@ use Rattle.gc_heap.specs.Objects.{held_size, size_with, first_offset, data_offse
 use Rattle.gc_heap.specs.Content.{total, block_size, LiesAtPlace, TellsCounts, IsHeap}
 use Rattle.gc_heap.specs.Totals.{total-empty}
 use Rattle.gc_drc.specs.declared.space.CountedSpace.{CountedSpace}
-use Rattle.gc_drc.specs.Layout.{size_at, block_of, kind_at, data_at, object_at, IsWhole}
-use Rattle.gc_drc.specs.View.{View, block_at, Holds}
-use Rattle.gc_drc.specs.Content.{at_places, places_of, counted_at, seen_in, IsSoundSpace}
-use Rattle.gc_drc.specs.PlaceLaws.{get_in, found_in, places-blocks, spread-lies, spread-apart, spread-sum, spread-total, total-at, in_contains, in_filter}
+use Rattle.gc_drc.specs.Layout.{counting_size_at, block_of, counting_kind_at, counting_data_at, counting_object_at, IsCountingWhole}
+use Rattle.gc_drc.specs.View.{View, block_at, HoldsBlocks}
+use Rattle.gc_drc.specs.Content.{at_places, places_of, counted_at, counting_seen_in, IsSoundSpace}
+use Rattle.gc_drc.specs.PlaceLaws.{get_in, found_in, places-blocks, spread-lies, spread-apart, spread-sum, spread-total, total-at_places, in_contains, in_filter}
 
 -- the blocks of a view lie apart
-pub blocks_apart : (v : View) (s : CountedSpace) → Holds v s → IsSpread 16 (places_end s.free.space.capacity) (map (block_at v.sizes) v.places)
+pub blocks_apart : (v : View) (s : CountedSpace) → HoldsBlocks v s → IsSpread 16 (places_end s.free.space.capacity) (map (block_at v.sizes) v.places)
 blocks_apart v s h = subst (IsSpread 16 (places_end s.free.space.capacity)) h.blocks h.sound.blocks
 
 pub aligned_at : (sizes : ℕ → ℕ) (p : ℕ) (ps : List ℕ) → AllAligned (map (block_at sizes) ps) → In p ps → p % 16 ≡ 0
@@ -33,7 +33,7 @@ aligned_at sizes _ (p ∷ ps) all here = all.0.0
 aligned_at sizes q (p ∷ ps) all (there i) = aligned_at sizes q ps all.1 i
 
 -- the places of its blocks are those of the view
-pub places_are : (v : View) (s : CountedSpace) → Holds v s → places_of s.free.space.held ≡ v.places
+pub places_are : (v : View) (s : CountedSpace) → HoldsBlocks v s → places_of s.free.space.held ≡ v.places
 places_are v s h = ap places_of h.blocks ∙ places-blocks v.sizes v.places
 
 -- where an object lies, and its size
@@ -53,10 +53,10 @@ least_offset StructRef = omega arith
 least_offset ArrayRef = omega arith
 least_offset ExnRef = omega arith
 
-pub least_size : (bytes : List ℕ) (p : ℕ) → IsWhole bytes p → 28 ≤ size_at bytes p
-least_size bytes p w = let a = least_offset (kind_at bytes p) in omega (arith, w.least)
+pub least_size : (bytes : List ℕ) (p : ℕ) → IsCountingWhole bytes p → 28 ≤ counting_size_at bytes p
+least_size bytes p w = let a = least_offset (counting_kind_at bytes p) in omega (arith, w.least)
 
-pub lies : (v : View) (s : CountedSpace) (p : ℕ) → Holds v s → In p v.places → Lies v s p
+pub lies : (v : View) (s : CountedSpace) (p : ℕ) → HoldsBlocks v s → In p v.places → Lies v s p
 lies v s p h i =
     let l = spread-lies v.sizes 16 (places_end s.free.space.capacity) p v.places (blocks_apart v s h) i in
     let o = h.objects p i in
@@ -75,14 +75,14 @@ lies v s p h i =
     }
 
 -- of two objects the one ends before the other begins
-pub apart : (v : View) (s : CountedSpace) (p q : ℕ) → Holds v s → In p v.places → In q v.places → p < q → p + block_of (v.sizes p) ≤ q
+pub apart : (v : View) (s : CountedSpace) (p q : ℕ) → HoldsBlocks v s → In p v.places → In q v.places → p < q → p + block_of (v.sizes p) ≤ q
 apart v s p q h i j before = spread-apart v.sizes 16 (places_end s.free.space.capacity) p q v.places (blocks_apart v s h) i j before
 
-length-part : (bytes : List ℕ) (lo n : ℕ) → lo + n ≤ length bytes → length (take n (drop lo bytes)) ≡ n
-length-part bytes lo n h = length-take-le n (drop lo bytes) (omega (arith, length-drop lo bytes))
+length-counting_part : (bytes : List ℕ) (lo n : ℕ) → lo + n ≤ length bytes → length (take n (drop lo bytes)) ≡ n
+length-counting_part bytes lo n h = length-take-le n (drop lo bytes) (omega (arith, length-drop lo bytes))
 
-pub length-data_at : (bytes : List ℕ) (p : ℕ) → 28 ≤ size_at bytes p → p + size_at bytes p ≤ length bytes → length (data_at bytes p) ≡ size_at bytes p - 28
-length-data_at bytes p least h = length-part bytes (p + 28) (size_at bytes p - 28) (omega arith)
+pub length-counting_data_at : (bytes : List ℕ) (p : ℕ) → 28 ≤ counting_size_at bytes p → p + counting_size_at bytes p ≤ length bytes → length (counting_data_at bytes p) ≡ counting_size_at bytes p - 28
+length-counting_data_at bytes p least h = length-counting_part bytes (p + 28) (counting_size_at bytes p - 28) (omega arith)
 
 size_by : (k : VMGcKind) (n size : ℕ) → 28 ≤ size → n ≡ size - 28 → (k ≡ ExternRef → size ≡ 32) → size_with Counting k n ≡ size
 size_by ExternRef n size least is ext = sym (ext refl)
@@ -93,17 +93,17 @@ size_by ArrayRef n size least is ext = omega arith
 size_by ExnRef n size least is ext = omega arith
 
 -- an object takes as many bytes as its size word says
-pub held_size-at : (bytes : List ℕ) (p : ℕ) → IsWhole bytes p → p + size_at bytes p ≤ length bytes → held_size Counting (object_at bytes p) ≡ size_at bytes p
-held_size-at bytes p w h =
+pub held_size-counting : (bytes : List ℕ) (p : ℕ) → IsCountingWhole bytes p → p + counting_size_at bytes p ≤ length bytes → held_size Counting (counting_object_at bytes p) ≡ counting_size_at bytes p
+held_size-counting bytes p w h =
     let least = least_size bytes p w in
-    size_by (kind_at bytes p) (length (data_at bytes p)) (size_at bytes p) least (length-data_at bytes p least h) (λ e. (w.external e).size)
+    size_by (counting_kind_at bytes p) (length (counting_data_at bytes p)) (counting_size_at bytes p) least (length-counting_data_at bytes p least h) (λ e. (w.external e).size)
 
-pub held_size-in : (v : View) (s : CountedSpace) (p : ℕ) → Holds v s → In p v.places → held_size Counting (object_at s.memory p) ≡ v.sizes p
+pub held_size-in : (v : View) (s : CountedSpace) (p : ℕ) → HoldsBlocks v s → In p v.places → held_size Counting (counting_object_at s.memory p) ≡ v.sizes p
 held_size-in v s p h i =
     let o = h.objects p i in
     let l = lies v s p h i in
     let size = o.size_is in
-    held_size-at s.memory p o.whole (let inside = l.inside in omega arith) ∙ size
+    held_size-counting s.memory p o.whole (let inside = l.inside in omega arith) ∙ size
 
 data_from : (k : VMGcKind) → data_offset Counting k ≡ 28
 data_from ExternRef = refl
@@ -114,14 +114,14 @@ data_from ArrayRef = refl
 data_from ExnRef = refl
 
 -- the object at a place of a space lies there
-pub lies_at_place : (v : View) (s : CountedSpace) (p : ℕ) → Holds v s → In p v.places → LiesAtPlace Counting (length s.memory) p (object_at s.memory p)
-lies_at_place v s p h i =
+pub counting_lies_at_place : (v : View) (s : CountedSpace) (p : ℕ) → HoldsBlocks v s → In p v.places → LiesAtPlace Counting (length s.memory) p (counting_object_at s.memory p)
+counting_lies_at_place v s p h i =
     let o = h.objects p i in
     let l = lies v s p h i in
     let w = o.whole in
     let size = o.size_is in
-    let bytes_are = length-data_at s.memory p (let least = l.least in omega arith) (let inside = l.inside in omega arith) in
-    let from = data_from (kind_at s.memory p) in
+    let bytes_are = length-counting_data_at s.memory p (let least = l.least in omega arith) (let inside = l.inside in omega arith) in
+    let from = data_from (counting_kind_at s.memory p) in
     record {
       aligned = l.aligned;
       not_null = let from = l.not_null in omega arith;
@@ -144,39 +144,39 @@ held_some f g ps q some = elim (finite.get (at_places g ps) q) as (λ o. finite.
   | None ↦ λ e s. absurd (none_some s)
 ] refl some
 
-tells_counts : (v : View) (s : CountedSpace) (scopes : ℕ) → Holds v s → TellsCounts (seen_in scopes s)
+tells_counts : (v : View) (s : CountedSpace) (scopes : ℕ) → HoldsBlocks v s → TellsCounts (counting_seen_in scopes s)
 tells_counts v s scopes h =
     let ps : List ℕ = places_of s.free.space.held in
     let are = places_are v s h in
     record {
       counted = λ q. (
-        λ held. some_get _ (counted_at s.memory q) (get_in (counted_at s.memory) q ps (found_in (object_at s.memory) q held.0 ps held.1).0),
-        λ some. held_some (object_at s.memory) (counted_at s.memory) ps q some,
+        λ held. some_get _ (counted_at s.memory q) (get_in (counted_at s.memory) q ps (found_in (counting_object_at s.memory) q held.0 ps held.1).0),
+        λ some. held_some (counting_object_at s.memory) (counted_at s.memory) ps q some,
       );
       shown = λ q e. held_in q ps (in_filter _ q ps (in_contains q _ e)).0;
       queued = λ q e. held_in q ps (in_filter _ q ps (in_contains q _ e)).0;
     }
   where
-    held_in : (q : ℕ) (ps : List ℕ) → In q ps → (o : HeapObject) × (finite.get (at_places (object_at s.memory) ps) q ≡ Some o)
-    held_in q ps i = (object_at s.memory q, get_in (object_at s.memory) q ps i)
+    held_in : (q : ℕ) (ps : List ℕ) → In q ps → (o : HeapObject) × (finite.get (at_places (counting_object_at s.memory) ps) q ≡ Some o)
+    held_in q ps i = (counting_object_at s.memory q, get_in (counting_object_at s.memory) q ps i)
 
 -- the blocks of the objects add up to the allocated bytes, and their sizes to no more
-sums : (v : View) (s : CountedSpace) → Holds v s
-    → (total (held_size Counting) (at_places (object_at s.memory) v.places) ≤ length s.memory) × (s.allocated ≡ total (block_size Counting) (at_places (object_at s.memory) v.places))
+sums : (v : View) (s : CountedSpace) → HoldsBlocks v s
+    → (total (held_size Counting) (at_places (counting_object_at s.memory) v.places) ≤ length s.memory) × (s.allocated ≡ total (block_size Counting) (at_places (counting_object_at s.memory) v.places))
 sums v s h =
     let up = blocks_apart v s h in
     let high : ℕ = places_end s.free.space.capacity in
-    let sizes = total-at (held_size Counting) (object_at s.memory) v.sizes 16 high v.places up
-    ∙ sum_over-same v.sizes (λ p. held_size Counting (object_at s.memory p)) v.places (λ p i. held_size-in v s p h i) in
-    let blocks = total-at (block_size Counting) (object_at s.memory) v.sizes 16 high v.places up
-    ∙ sum_over-same (λ p. block_of (v.sizes p)) (λ p. block_size Counting (object_at s.memory p)) v.places (λ p i. ap block_of (held_size-in v s p h i)) in
+    let sizes = total-at_places (held_size Counting) (counting_object_at s.memory) v.sizes 16 high v.places up
+    ∙ sum_over-same v.sizes (λ p. held_size Counting (counting_object_at s.memory p)) v.places (λ p i. held_size-in v s p h i) in
+    let blocks = total-at_places (block_size Counting) (counting_object_at s.memory) v.sizes 16 high v.places up
+    ∙ sum_over-same (λ p. block_of (v.sizes p)) (λ p. block_size Counting (counting_object_at s.memory p)) v.places (λ p i. ap block_of (held_size-in v s p h i)) in
     let less = sum_over-le (λ p. block_of (v.sizes p)) v.sizes v.places (λ p i. omega arith) in
     (fits up sizes less, h.allocated ∙ sym blocks)
   where
     fits : IsSpread 16 (places_end s.free.space.capacity) (map (block_at v.sizes) v.places)
-        → total (held_size Counting) (at_places (object_at s.memory) v.places) ≡ sum_over v.sizes v.places
+        → total (held_size Counting) (at_places (counting_object_at s.memory) v.places) ≡ sum_over v.sizes v.places
         → sum_over v.sizes v.places ≤ sum_over (λ p. block_of (v.sizes p)) v.places
-        → total (held_size Counting) (at_places (object_at s.memory) v.places) ≤ length s.memory
+        → total (held_size Counting) (at_places (counting_object_at s.memory) v.places) ≤ length s.memory
     fits up e less = elim (cases_lt (places_end s.free.space.capacity) 16) [
       | inl small ↦ subst (λ n. n ≤ length s.memory) (sym (e ∙ none v.places up small)) (omega arith)
       | inr large ↦ let sum = spread-sum v.sizes 16 (places_end s.free.space.capacity) v.places large up in let c = h.capacity in omega arith
@@ -187,23 +187,23 @@ sums v s h =
         none (p ∷ ps) up small = absurd (let a : 16 ≤ p = up.0 in let b : p + block_of (v.sizes p) ≤ places_end s.free.space.capacity = up.2 in omega arith)
 
 -- the allocated bytes lie in the memory
-within_memory : (v : View) (s : CountedSpace) → Holds v s → s.allocated ≤ length s.memory
+within_memory : (v : View) (s : CountedSpace) → HoldsBlocks v s → s.allocated ≤ length s.memory
 within_memory v s h =
     let all = spread-total v.sizes 16 (places_end s.free.space.capacity) v.places (blocks_apart v s h) in
     let capacity = h.capacity in
     let allocated = h.allocated in omega arith
 
 -- A sound space is a heap.
-pub space_is_heap : (s : CountedSpace) (scopes : ℕ) → IsSoundSpace s → scopes < 2 ^ 64 → IsHeap Counting (seen_in scopes s)
-space_is_heap s scopes sound below =
+pub counting_space_is_heap : (s : CountedSpace) (scopes : ℕ) → IsSoundSpace s → scopes < 2 ^ 64 → IsHeap Counting (counting_seen_in scopes s)
+counting_space_is_heap s scopes sound below =
     let v = sound.view in
     let h = sound.holds in
     let are = places_are v s h in
-    let sum = subst (λ ps. (total (held_size Counting) (at_places (object_at s.memory) ps) ≤ length s.memory) × (s.allocated ≡ total (block_size Counting) (at_places (object_at s.memory) ps))) (sym are) (sums v s h) in
-    let place = λ (p : ℕ) (o : HeapObject) (e : finite.get (at_places (object_at s.memory) (places_of s.free.space.held)) p ≡ Some o).
-    found_in (object_at s.memory) p o (places_of s.free.space.held) e in
+    let sum = subst (λ ps. (total (held_size Counting) (at_places (counting_object_at s.memory) ps) ≤ length s.memory) × (s.allocated ≡ total (block_size Counting) (at_places (counting_object_at s.memory) ps))) (sym are) (sums v s h) in
+    let place = λ (p : ℕ) (o : HeapObject) (e : finite.get (at_places (counting_object_at s.memory) (places_of s.free.space.held)) p ≡ Some o).
+    found_in (counting_object_at s.memory) p o (places_of s.free.space.held) e in
     record {
-      objects = λ p o e. let f = place p o e in subst (LiesAtPlace Counting (length s.memory) p) (sym f.1) (lies_at_place v s p h (subst (In p) are f.0));
+      objects = λ p o e. let f = place p o e in subst (LiesAtPlace Counting (length s.memory) p) (sym f.1) (counting_lies_at_place v s p h (subst (In p) are f.0));
       apart = λ p q o o' e e' before.
           let f = place p o e in
           let g = place q o' e' in
@@ -222,8 +222,8 @@ space_is_heap s scopes sound below =
     }
 
 -- A heap with no memory is one.
-pub detached_is_heap : (scopes : ℕ) → scopes < 2 ^ 64 → IsHeap Counting (detached_in scopes)
-detached_is_heap scopes below = record {
+pub counting_detached_is_heap : (scopes : ℕ) → scopes < 2 ^ 64 → IsHeap Counting (detached_in scopes)
+counting_detached_is_heap scopes below = record {
   objects = λ p o e. absurd (none p o e);
   apart = λ p q o o' e e' before. absurd (none p o e);
   fits = omega (arith, total-empty (held_size Counting));

@@ -7,7 +7,7 @@ use Rattle.gc_free.specs.declared.run.Run.{Run}
 use Rattle.gc_free.specs.Runs.{run}
 use Rattle.gc_free.specs.Space.{IsSound}
 use Rattle.gc_drc.specs.declared.space.CountedSpace.{CountedSpace}
-use Rattle.gc_drc.specs.Layout.{count_at, size_at, block_of, flags_at, IsWhole}
+use Rattle.gc_drc.specs.Layout.{count_at, counting_size_at, block_of, flags_at, IsCountingWhole}
 
 -- The places of the objects by rising place; those on the list of shown words and those queued to be
 -- freed, from the head of each list on; those that are marked; how often each place is named, and how
@@ -44,15 +44,15 @@ pub record IsPart (places list : List ℕ) : Type 0 where
 
 -- an object of that size, count word and flags stands at a place; the count is never 0
 pub record ShowsObject (bytes : List ℕ) (place size count flags : ℕ) : Type 0 where
-  pub whole : IsWhole bytes place
-  pub size_is : size_at bytes place ≡ size
+  pub whole : IsCountingWhole bytes place
+  pub size_is : counting_size_at bytes place ≡ size
   pub count_is : count_at bytes place ≡ count
   pub positive : 0 < count
   pub flags_are : flags_at bytes place ≡ flags
 
 -- The heap shows this view: the blocks of its free list are those of the objects, its words are theirs,
 -- and the two lists are linked from their heads on.
-pub record Holds (v : View) (s : CountedSpace) : Type 0 where
+pub record HoldsBlocks (v : View) (s : CountedSpace) : Type 0 where
   pub pages : length s.memory % page ≡ 0
   pub bound : length s.memory ≤ page * max_pages
   pub capacity : s.free.space.capacity ≡ length s.memory

@@ -7,7 +7,7 @@ ghost use Rattle.gc_types.specs.declared.kind.VMGcKind.{VMGcKind};
 ghost use Rattle.gc_refs.specs.Header.{IsOfKind};
 ghost use Rattle.gc_heap.specs.Heap.{Allocated};
 ghost use Rattle.gc_heap.specs.Making.{CanMake, made};
-ghost use Rattle.gc_drc.specs.Content.{IsSoundSpace, seen_in};
+ghost use Rattle.gc_drc.specs.Content.{IsSoundSpace, counting_seen_in};
 
 use crate::space::CountedSpace;
 use gc_heap::{FirstWord, HeapFault};
@@ -16,7 +16,7 @@ use gc_types::Layouts;
 
 impl CountedSpace {
     /// Makes an object of `size` bytes with that header and first word, whose data is 0 behind it.
-    pub(crate) fn make(
+    pub(crate) fn allocate(
         &mut self,
         header: VMGcHeader,
         first: FirstWord,
@@ -26,9 +26,9 @@ impl CountedSpace {
         requires can { CanMake Counting header first size }
         ensures sound { IsSoundSpace self.new }
         ensures allocated { (scopes : ℕ) (kind : VMGcKind) → IsOfKind kind header.kind_word
-            → Allocated Counting (seen_in scopes self.old) (seen_in scopes self.new) (made Counting kind header first size) size result }
+            → Allocated Counting (counting_seen_in scopes self.old) (counting_seen_in scopes self.new) (made Counting kind header first size) size result }
     {
-        match self.make_zeroed(header, size) {
+        match self.allocate_zeroed(header, size) {
             Ok(Ok(object)) => {
                 first.write(&mut self.memory, Layouts::Counting, object.as_raw_u32());
                 Ok(Ok(object))

@@ -1,7 +1,7 @@
 //! What a collection of a counting heap knows between two increments.
 
 ghost use Rattle.std.specs.Prelude.{◌≡◌};
-ghost use Rattle.gc_drc.specs.DrcCollectionLaw.{IsFresh};
+ghost use Rattle.gc_drc.specs.DrcCollectionLaw.{IsCountingFresh};
 
 use crate::collect::phase::Phase;
 use gc_types::Layouts;
@@ -27,7 +27,7 @@ pub struct DrcCollection {
 impl DrcCollection {
     /// A collection of which nothing was done.
     pub(crate) fn new() -> DrcCollection
-        ensures { IsFresh result }
+        ensures { IsCountingFresh result }
     {
         DrcCollection {
             phase: Phase::MarkFrames,

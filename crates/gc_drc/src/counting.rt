@@ -4,8 +4,8 @@ ghost use Rattle.std.specs.Prelude.{◌≡◌, ◌+◌, ◌%◌, ◌<◌, ◌≤
 ghost use Rattle.gc_memory.specs.Words.{word};
 ghost use Rattle.gc_memory.specs.Lists.{In};
 ghost use Rattle.gc_drc.specs.Layout.{count_at};
-ghost use Rattle.gc_drc.specs.View.{View, Holds};
-ghost use Rattle.gc_drc.specs.Operations.{CanRaise, CanLower, Tends, Sets, raised, lowered, exposed};
+ghost use Rattle.gc_drc.specs.View.{View, HoldsBlocks};
+ghost use Rattle.gc_drc.specs.Operations.{CanRaise, CanLower, Tends, SetsWords, counting_raised, counting_lowered, counting_exposed};
 
 use crate::space::{CountedSpace, QUEUED, SHOWN};
 
@@ -13,7 +13,7 @@ impl CountedSpace {
     /// Counts one name more of an object.
     pub(crate) fn raise(&mut self, place: u32)
         requires { CanRaise self.old place }
-        ensures holds { (v : View) → Holds v self.old → In place v.places → Holds (raised v place) self.new }
+        ensures holds { (v : View) → HoldsBlocks v self.old → In place v.places → HoldsBlocks (counting_raised v place) self.new }
         ensures tends { Tends self.old.memory self.new.memory place }
         ensures free { self.new.free ≡ self.old.free }
     {
@@ -25,7 +25,7 @@ impl CountedSpace {
     /// keeps its memory until the next collection.
     pub(crate) fn lower(&mut self, place: u32)
         requires { CanLower self.old place }
-        ensures holds { (v : View) → Holds v self.old → In place v.places → 0 < v.counted place → Holds (lowered v place) self.new }
+        ensures holds { (v : View) → HoldsBlocks v self.old → In place v.places → 0 < v.counted place → HoldsBlocks (counting_lowered v place) self.new }
         ensures tends { Tends self.old.memory self.new.memory place }
         ensures free { self.new.free ≡ self.old.free }
     {
@@ -41,7 +41,7 @@ impl CountedSpace {
     /// list, the name is taken off.
     pub(crate) fn expose(&mut self, place: u32)
         requires { CanLower self.old place }
-        ensures holds { (v : View) → Holds v self.old → In place v.places → 0 < v.counted place → Holds (exposed v place) self.new }
+        ensures holds { (v : View) → HoldsBlocks v self.old → In place v.places → 0 < v.counted place → HoldsBlocks (counting_exposed v place) self.new }
         ensures tends { Tends self.old.memory self.new.memory place }
         ensures free { self.new.free ≡ self.old.free }
     {
@@ -57,7 +57,7 @@ impl CountedSpace {
     fn enqueue(&mut self, place: u32)
         requires room { place + 28 ≤ length self.old.memory }
         requires apart { word self.old.memory place % 8 < 4 }
-        ensures sets { Sets self.old.memory self.new.memory place (word self.old.memory place + 4) (count_at self.old.memory place)
+        ensures sets { SetsWords self.old.memory self.new.memory place (word self.old.memory place + 4) (count_at self.old.memory place)
             (word self.old.memory (place + 16)) self.old.queued }
         ensures rest { self.new ≡ record self.old { memory = self.new.memory; queued = place } }
     {
@@ -71,7 +71,7 @@ impl CountedSpace {
     fn push_shown(&mut self, place: u32)
         requires room { place + 28 ≤ length self.old.memory }
         requires apart { word self.old.memory place % 4 < 2 }
-        ensures sets { Sets self.old.memory self.new.memory place (word self.old.memory place + 2) (count_at self.old.memory place) self.old.shown
+        ensures sets { SetsWords self.old.memory self.new.memory place (word self.old.memory place + 2) (count_at self.old.memory place) self.old.shown
             (word self.old.memory (place + 24)) }
         ensures rest { self.new ≡ record self.old { memory = self.new.memory; shown = place } }
     {

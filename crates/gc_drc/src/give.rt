@@ -1,16 +1,16 @@
 //! Objects that are given back.
 
-ghost use Rattle.gc_drc.specs.Giving.{CanGive, Gives};
+ghost use Rattle.gc_drc.specs.Giving.{IsUnlisted, GivesBack};
 
-use crate::place::block_of;
+use crate::blocks::block_of;
 use crate::space::CountedSpace;
 use std::num::NonZeroU32;
 
 impl CountedSpace {
     /// Frees an object that is on no list. What its fields name is not told.
     pub(crate) fn give_back(&mut self, place: u32)
-        requires { CanGive self.old place }
-        ensures { Gives self.old self.new place }
+        requires { IsUnlisted self.old place }
+        ensures { GivesBack self.old self.new place }
     {
         let block = block_of(self.size(place));
         match NonZeroU32::new(place) {

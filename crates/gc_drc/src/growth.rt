@@ -5,7 +5,7 @@ ghost use Rattle.gc_heap.specs.Heap.{empty_heap};
 ghost use Rattle.gc_types.specs.declared.kind.Layouts.TheVariants.{Counting};
 ghost use Rattle.gc_view.specs.Pages.{page, max_pages};
 ghost use Rattle.gc_free.specs.Space.{grow, IsSound};
-ghost use Rattle.gc_drc.specs.Content.{IsSoundSpace, seen_in};
+ghost use Rattle.gc_drc.specs.Content.{IsSoundSpace, counting_seen_in};
 
 use crate::space::CountedSpace;
 use gc_free::FreeList;
@@ -26,7 +26,7 @@ impl CountedSpace {
     /// A memory with no objects. The Err is want of memory for the free list.
     pub(crate) fn new(alloc: Global, memory: HeapMemory) -> Result<CountedSpace, HeapMemory>
         ensures sound { IfOk result (λ space. IsSoundSpace space) }
-        ensures seen { (scopes : ℕ) → IfOk result (λ space. seen_in scopes space ≡ empty_heap Counting (length memory) scopes) }
+        ensures seen { (scopes : ℕ) → IfOk result (λ space. counting_seen_in scopes space ≡ empty_heap Counting (length memory) scopes) }
         ensures back { IfErr result (λ given. given ≡ memory) }
     {
         let _pages = memory.pages();
@@ -45,13 +45,13 @@ impl CountedSpace {
 }
 
 impl HeapSpace for CountedSpace {
-    ghost use Rattle.gc_drc.specs.Backed.{marks_of};
+    ghost use Rattle.gc_drc.specs.Backed.{counting_marks_of};
 
     type Marks = Marks;
 
     ghost memory = { λ s. s.memory };
 
-    ghost marks = { marks_of };
+    ghost marks = { counting_marks_of };
 
     ghost objects = { λ s. s.objects };
 

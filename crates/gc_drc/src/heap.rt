@@ -18,8 +18,8 @@ ghost use Rattle.gc_view.specs.Heaps.{detached_in};
 ghost use Rattle.gc_heap.specs.Barriers.{CanName, CanUnname, CanNameSlot, CanUnnameSlot, cloned, dropped, copied, emptied};
 ghost use Rattle.gc_heap.specs.Collection.{Start, has_host, IsPartOf, Collected, Stepped};
 ghost use Rattle.gc_drc.specs.States.{drc_seen, IsDrcSound};
-ghost use Rattle.gc_drc.specs.CollectPhases.{left_of};
-ghost use Rattle.gc_drc.specs.ObjectsBetween.{Between};
+ghost use Rattle.gc_drc.specs.CollectPhases.{increments_left};
+ghost use Rattle.gc_drc.specs.ObjectsBetween.{CountingBetween};
 ghost use Rattle.gc_drc.specs.PlainCounting.{HasDone, UnheldGone};
 
 use crate::collect::phase::Phase;
@@ -117,14 +117,14 @@ impl DrcHeap {
         roots: &GcRootsList,
         trace: &mut GcStoreTraceState<'_, D>,
     ) -> GcProgress
-        requires { (s : Start) × ((n : ℕ) × Between s n self.old.scopes self.old.backing phase.old roots.now.roots trace.old.types.now.declarations
+        requires { (s : Start) × ((n : ℕ) × CountingBetween s n self.old.scopes self.old.backing phase.old roots.now.roots trace.old.types.now.declarations
             (has_host trace.old.host_data_table.now.entries)) }
-        ensures stepped { (s : Start) (n : ℕ) → Between s n self.old.scopes self.old.backing phase.old roots.now.roots trace.old.types.now.declarations
+        ensures stepped { (s : Start) (n : ℕ) → CountingBetween s n self.old.scopes self.old.backing phase.old roots.now.roots trace.old.types.now.declarations
             (has_host trace.old.host_data_table.now.entries)
-            → Stepped Counting s (n + 1) result (Between s (n + 1) self.new.scopes self.new.backing phase.new roots.now.roots trace.old.types.now.declarations
+            → Stepped Counting s (n + 1) result (CountingBetween s (n + 1) self.new.scopes self.new.backing phase.new roots.now.roots trace.old.types.now.declarations
             (has_host trace.new.host_data_table.now.entries))
             (IsDrcSound self.new × Collected Counting s (drc_seen self.new) roots.now.roots (has_host trace.new.host_data_table.now.entries)) }
-        ensures less { result ≡ GcProgress.Continue → left_of phase.new < left_of phase.old }
+        ensures less { result ≡ GcProgress.Continue → increments_left phase.new < increments_left phase.old }
         ensures host_spare { trace.old.host_data_table.now.spare ≤ trace.new.host_data_table.now.spare }
         ensures values { IsPartOf trace.new.host_data_table.now.entries trace.old.host_data_table.now.entries }
         ensures hosts { trace.new.host_data_table.ghost_name ≡ trace.old.host_data_table.ghost_name }
@@ -175,10 +175,10 @@ impl GcHeap for DrcHeap {
     ghost use Rattle.gc_heap.specs.Barriers.{ShowsCount};
     ghost use Rattle.gc_drc.specs.ThreadedLists.{ThreadsLists};
     ghost use Rattle.gc_drc.specs.States.{drc_seen, IsDrcSound, IsDrcTaken};
-    ghost use Rattle.gc_drc.specs.CollectPhases.{left_of};
+    ghost use Rattle.gc_drc.specs.CollectPhases.{increments_left};
     ghost use Rattle.gc_drc.specs.ObjectsBetween.{IsDrcUnderWay};
     ghost use Rattle.gc_drc.specs.DrcHeapLaw.{drc_is_heap};
-    ghost use Rattle.gc_drc.specs.DrcCollectionLaw.{IsFresh, drc_starts};
+    ghost use Rattle.gc_drc.specs.DrcCollectionLaw.{IsCountingFresh, drc_starts};
 
     type State = DrcCollection;
 
@@ -188,13 +188,13 @@ impl GcHeap for DrcHeap {
 
     ghost taken = { IsDrcTaken };
 
-    ghost begun = { IsFresh };
+    ghost begun = { IsCountingFresh };
 
     ghost ticks = { λ _. 0 };
 
     ghost under_way = { λ s n c at. IsDrcUnderWay s n at.heap at.state.phase at.roots at.types at.hosts };
 
-    ghost left = { λ _ state. left_of state.phase };
+    ghost left = { λ _ state. increments_left state.phase };
 
     ghost KIND = { Counting };
 
@@ -279,7 +279,7 @@ impl GcHeap for DrcHeap {
         size: u64,
     ) -> Result<Result<VMGcRef, u64>, HeapFault> {
         match &mut self.backing {
-            Backing::Attached(space) => space.make(header, first, size),
+            Backing::Attached(space) => space.allocate(header, first, size),
             _ => unreachable!(),
         }
     }

@@ -30,7 +30,7 @@ mod give;
 mod growth;
 pub mod heap;
 pub mod laws;
-mod place;
+mod blocks;
 pub(crate) mod space;
 mod write;
 

@@ -7,7 +7,7 @@ use Rattle.gc_free.specs.declared.run.Run.{Run}
 use Rattle.gc_free.specs.Runs.{run, end_of, gap, gaps, without, begins_at, IsSpread}
 use Rattle.gc_free.specs.Space.{Space, IsBetween, places_end, covers, current_with, merge, give, merge_all, first_of_runs}
 use Rattle.gc_free.specs.Merged.{current_after, others_after}
-use Rattle.gc_free.specs.Kept.{is_current, IsKept}
+use Rattle.gc_free.specs.Kept.{is_current, KeepsRuns}
 use Rattle.gc_free.proofs.Between.{between_within, length-gaps}
 use Rattle.gc_free.proofs.Taking.{gaps-spread, spread-without, spread-widen, length-without}
 use Rattle.gc_free.proofs.Giving.{IsGiven, given_back}
@@ -55,9 +55,9 @@ pub record GiveKept (b : Run) (s : Space) (runs : List Run) (room blocks : ℕ) 
   pub spread : IsSpread 0 (2 ^ 32 - 1) (others_after b s.current runs)
   pub has_room : length (others_after b s.current runs) ≤ room
   pub current_is : current_after b s.current runs ≡ (give b s).current
-  pub kept : (more : ℕ) → room ≤ more → IsKept (give b s) (others_after b s.current runs) more (blocks - 1)
+  pub kept : (more : ℕ) → room ≤ more → KeepsRuns (give b s) (others_after b s.current runs) more (blocks - 1)
 
-pub give_kept : (b : Run) (s : Space) (runs : List Run) (room blocks : ℕ) → IsKept s runs room blocks → Contains s.held b → GiveKept b s runs room blocks
+pub give_kept : (b : Run) (s : Space) (runs : List Run) (room blocks : ℕ) → KeepsRuns s runs room blocks → Contains s.held b → GiveKept b s runs room blocks
 give_kept b s runs room blocks kept has =
     let end = places_end s.capacity in
     let sound = kept.sound in
@@ -132,8 +132,8 @@ pub with_capacity : ℕ → Space → Space
 with_capacity capacity s = record { capacity = capacity; held = s.held; current = s.current }
 
 -- no new places
-pub idle_kept : (s : Space) (capacity : ℕ) (runs : List Run) (room blocks : ℕ) → IsKept s runs room blocks → s.capacity ≤ capacity → capacity < 2 ^ 64
-    → places_end capacity ≤ max 16 (places_end s.capacity) → IsKept (record { capacity = capacity; held = s.held; current = s.current }) runs room blocks
+pub idle_kept : (s : Space) (capacity : ℕ) (runs : List Run) (room blocks : ℕ) → KeepsRuns s runs room blocks → s.capacity ≤ capacity → capacity < 2 ^ 64
+    → places_end capacity ≤ max 16 (places_end s.capacity) → KeepsRuns (record { capacity = capacity; held = s.held; current = s.current }) runs room blocks
 idle_kept s capacity runs room blocks kept more small none =
     let up = places_end-mono s.capacity capacity more in
     let sound = kept.sound in
@@ -156,9 +156,9 @@ pub record GrowKept (freed : Run) (s : Space) (capacity : ℕ) (runs : List Run)
   pub spread : IsSpread 0 (2 ^ 32 - 1) (others_after freed s.current runs)
   pub has_room : length (others_after freed s.current runs) ≤ room
   pub current_is : current_after freed s.current runs ≡ (merge freed (record { capacity = capacity; held = s.held; current = s.current })).current
-  pub kept : (more : ℕ) → room ≤ more → IsKept (merge freed (record { capacity = capacity; held = s.held; current = s.current })) (others_after freed s.current runs) more blocks
+  pub kept : (more : ℕ) → room ≤ more → KeepsRuns (merge freed (record { capacity = capacity; held = s.held; current = s.current })) (others_after freed s.current runs) more blocks
 
-pub grow_kept : (s : Space) (capacity : ℕ) (runs : List Run) (room blocks : ℕ) → IsKept s runs room blocks → s.capacity ≤ capacity → capacity < 2 ^ 64
+pub grow_kept : (s : Space) (capacity : ℕ) (runs : List Run) (room blocks : ℕ) → KeepsRuns s runs room blocks → s.capacity ≤ capacity → capacity < 2 ^ 64
     → max 16 (places_end s.capacity) < places_end capacity
     → GrowKept (run (max 16 (places_end s.capacity)) (places_end capacity - max 16 (places_end s.capacity))) s capacity runs room blocks
 grow_kept s capacity runs room blocks kept more fits some =
@@ -192,7 +192,7 @@ grow_kept s capacity runs room blocks kept more fits some =
     }
 
 -- the same by the first of the new places' runs
-pub grow_kept_at : (s : Space) (capacity : ℕ) (runs : List Run) (room blocks : ℕ) (freed : Run) → IsKept s runs room blocks → s.capacity ≤ capacity → capacity < 2 ^ 64
+pub grow_kept_at : (s : Space) (capacity : ℕ) (runs : List Run) (room blocks : ℕ) (freed : Run) → KeepsRuns s runs room blocks → s.capacity ≤ capacity → capacity < 2 ^ 64
     → first_of_runs (gap (max 16 (places_end s.capacity)) (places_end capacity)) ≡ Some freed → GrowKept freed s capacity runs room blocks
 grow_kept_at s capacity runs room blocks freed kept more fits e =
     let first = gap_first (max 16 (places_end s.capacity)) (places_end capacity) freed e in

@@ -6,7 +6,7 @@ use Rattle.std.specs.Option.{MatchOption}
 use Rattle.gc_free.specs.declared.run.Run.{Run}
 use Rattle.gc_free.specs.Runs.{run, end_of, gaps, without, begins_at, IsSpread}
 use Rattle.gc_free.specs.Space.{Space, places_end, free_runs, covers, current_with, new_space, take, give, grow, IsBetween, IsSound}
-use Rattle.gc_free.specs.Kept.{is_current, IsKept}
+use Rattle.gc_free.specs.Kept.{is_current, KeepsRuns}
 use Rattle.gc_free.specs.Laws.{Call, Take, Give, Grow, after, IsAllowed, after_all, AreAllowed, EveryListOfCallsIsSound, give_all, AreHeld, IsReordered, nothing, later, exchanged, both, OrderOfGivingBackIsNothing}
 use Rattle.gc_free.proofs.ByLength.{In}
 use Rattle.gc_free.proofs.Keeping.{give_kept, grow_kept, idle_kept}
@@ -17,7 +17,7 @@ use Rattle.gc_free.proofs.MergedRuns.{around_is}
 use Rattle.gc_free.proofs.Slots.{lower, upper, before, behind, gaps-split}
 
 -- a free list could keep any sound space
-as_kept : (s : Space) → IsSound s → IsKept s (without (is_current s.current) (free_runs s)) (length s.held + 3) (length s.held)
+as_kept : (s : Space) → IsSound s → KeepsRuns s (without (is_current s.current) (free_runs s)) (length s.held + 3) (length s.held)
 as_kept s sound = record { sound = sound; others = refl; count = refl; has_room = omega arith }
 
 new_sound : (capacity : ℕ) → capacity < 2 ^ 64 → IsSound (new_space capacity)

@@ -6,7 +6,7 @@ use Rattle.std.specs.List.{list_any}
 use Rattle.gc_free.specs.declared.run.Run.{Run}
 use Rattle.gc_free.specs.Runs.{end_of, gap, gaps, IsSpread}
 use Rattle.gc_free.specs.Space.{places_end, covers}
-use Rattle.gc_free.specs.Laws.{StandApart, FollowsApart, bytes_of, FreeRunsAreTheRest, FreeRunsAreMaximal, BytesAddUp, AllBackLeavesOneRun}
+use Rattle.gc_free.specs.Laws.{StandApart, FollowsApart, bytes_in_runs, FreeRunsAreTheRest, FreeRunsAreMaximal, BytesAddUp, AllBackLeavesOneRun}
 use Rattle.gc_free.proofs.Slots.{Over, gaps-over}
 
 pub list_any-append : (test : Run → Bool) (xs ys : List Run) → list_any test (xs ++ ys) ≡ (list_any test xs || list_any test ys)
@@ -90,21 +90,21 @@ free_runs_are_maximal s sound = apart_gaps 16 (places_end s.capacity) s.held sou
 
 -- BYTES
 
-gap_bytes : (from to : ℕ) → bytes_of (gap from to) ≡ to - from
+gap_bytes : (from to : ℕ) → bytes_in_runs (gap from to) ≡ to - from
 gap_bytes from to =
     elim (cases_lt from to) [
       | inl l ↦ rw (lt-ltb from to l) (omega arith)
       | inr l ↦ rw (le-ltb from to l) (omega arith)
     ]
 
-gaps_bytes : (from end : ℕ) (bs : List Run) → IsSpread from end bs → bytes_of (gaps from end bs) + bytes_of bs ≡ end - from
+gaps_bytes : (from end : ℕ) (bs : List Run) → IsSpread from end bs → bytes_in_runs (gaps from end bs) + bytes_in_runs bs ≡ end - from
 gaps_bytes from end [] up = let g = gap_bytes from end in omega arith
 gaps_bytes from end (b ∷ bs) up =
     let g = gap_bytes from b.place in
     let i = gaps_bytes (end_of b) end bs up.3 in
-    let both : bytes_of (gap from b.place ++ gaps (end_of b) end bs) ≡ bytes_of (gap from b.place) + bytes_of (gaps (end_of b) end bs) =
+    let both : bytes_in_runs (gap from b.place ++ gaps (end_of b) end bs) ≡ bytes_in_runs (gap from b.place) + bytes_in_runs (gaps (end_of b) end bs) =
     sum_by-append (λ r. r.length) (gap from b.place) (gaps (end_of b) end bs) in
-    let own : bytes_of (b ∷ bs) ≡ b.length + bytes_of bs = sum_by-cons (λ r. r.length) b bs in
+    let own : bytes_in_runs (b ∷ bs) ≡ b.length + bytes_in_runs bs = sum_by-cons (λ r. r.length) b bs in
     let a : from ≤ b.place = up.0 in let w : end_of b ≤ end = up.2 in
     omega arith
 

@@ -11,9 +11,9 @@ use Rattle.gc_free.specs.declared.run.Run.{Run}
 use Rattle.gc_free.specs.Runs.{run, end_of, gaps, insert_run, remove_by, without, begins_at, IsSpread}
 use Rattle.gc_free.specs.Orders.{shortest_fit}
 use Rattle.gc_free.specs.Ordered.{without_found}
-use Rattle.gc_free.specs.Space.{Space, Taken, IsBetween, places_end, free_runs, rest_of, if_any, take, take_from, take_shortest, taken_from}
-use Rattle.gc_free.specs.Placed.{Placing, with_current, place_in, block_in, left_of}
-use Rattle.gc_free.specs.Kept.{is_current, IsKept}
+use Rattle.gc_free.specs.Space.{Space, Taken, IsBetween, places_end, free_runs, run_rest, if_any, take, take_from, take_shortest, taken_from}
+use Rattle.gc_free.specs.Placed.{PlacedBlock, with_current, place_in, block_in, left_in_run}
+use Rattle.gc_free.specs.Kept.{is_current, KeepsRuns}
 use Rattle.gc_free.proofs.ByLength.{In, length-insert_by, place_of}
 use Rattle.gc_free.proofs.Taking.{taken, put_back, shortest_found, remove_by_is_without, gaps-spread, spread-widen, all_short, length-spread}
 use Rattle.gc_free.proofs.Between.{gap_between, between_within, between_aligned, length-gaps}
@@ -51,10 +51,10 @@ blocks_with None blocks = blocks
 blocks_with (Some b) blocks = blocks + 1
 
 -- the placing rule's answer is that of the code's steps, and what a free list keeps stays true
-pub record IsPlaced (size : ℕ) (s : Space) (room blocks : ℕ) (by : Placing) (rule : Taken) : Type 0 where
+pub record IsPlaced (size : ℕ) (s : Space) (room blocks : ℕ) (by : PlacedBlock) (rule : Taken) : Type 0 where
   pub place : rule.place ≡ option_map (λ b. b.place) by.block
   pub space : rule.space ≡ record { capacity = s.capacity; held = held_with by.block s.held; current = by.current }
-  pub kept : IsKept rule.space by.others room (blocks_with by.block blocks)
+  pub kept : KeepsRuns rule.space by.others room (blocks_with by.block blocks)
   pub none_short : by.block ≡ None → AllByRecursion (λ r. r.length < size) (free_runs s)
   pub short_none : AllByRecursion (λ r. r.length < size) (free_runs s) → by.block ≡ None
   pub aligned : MatchOption by.block (Unit {0}) (λ b. (16 ≤ b.place) × (b.place % 16 ≡ 0))
@@ -65,11 +65,11 @@ all_short_at size (x ∷ xs) r all (inl e) = subst (λ z. z.length < size) e all
 all_short_at size (x ∷ xs) r all (inr h) = all_short_at size xs r all.1 h
 
 -- the space once a block was taken from a run, which another run follows as the current one
-kept_with : (size : ℕ) (s : Space) (r : Run) (current : Option Run) (runs others : List Run) (room blocks : ℕ) → IsKept s runs room blocks
+kept_with : (size : ℕ) (s : Space) (r : Run) (current : Option Run) (runs others : List Run) (room blocks : ℕ) → KeepsRuns s runs room blocks
     → size % 16 ≡ 0 → 0 < size → size ≤ r.length → IsBetween r 16 (places_end s.capacity) s.held → length s.held + 1 < room
     → MatchOption current (Unit {0}) (λ c. IsBetween c 16 (places_end s.capacity) (insert_run (run r.place size) s.held))
     → others ≡ without (is_current current) (gaps 16 (places_end s.capacity) (insert_run (run r.place size) s.held))
-    → IsKept (record { capacity = s.capacity; held = insert_run (run r.place size) s.held; current = current }) others room (blocks + 1)
+    → KeepsRuns (record { capacity = s.capacity; held = insert_run (run r.place size) s.held; current = current }) others room (blocks + 1)
 kept_with size s r current runs others room blocks kept whole some fits between has_room after is =
     let end = places_end s.capacity in
     let sound = kept.sound in
@@ -88,9 +88,9 @@ kept_with size s r current runs others room blocks kept whole some fits between 
       has_room = omega arith;
     }
 
-placed_current : (size : ℕ) (s : Space) (c : Run) (runs : List Run) (room blocks : ℕ) → IsKept s runs room blocks → s.current ≡ Some c
+placed_current : (size : ℕ) (s : Space) (c : Run) (runs : List Run) (room blocks : ℕ) → KeepsRuns s runs room blocks → s.current ≡ Some c
     → size % 16 ≡ 0 → 0 < size → size ≤ c.length → length s.held + 1 < room
-    → IsPlaced size s room blocks (record { block = Some (run c.place size); current = Some (rest_of size c); others = runs }) (taken_from size s c (Some (rest_of size c)))
+    → IsPlaced size s room blocks (record { block = Some (run c.place size); current = Some (run_rest size c); others = runs }) (taken_from size s c (Some (run_rest size c)))
 placed_current size s c runs room blocks kept e whole some fits has_room =
     let end = places_end s.capacity in
     let sound = kept.sound in
@@ -102,13 +102,13 @@ placed_current size s c runs room blocks kept e whole some fits has_room =
     record {
       place = refl;
       space = refl;
-      kept = kept_with size s c (Some (rest_of size c)) runs runs room blocks kept whole some fits between has_room t.between (own ∙ t.others);
+      kept = kept_with size s c (Some (run_rest size c)) runs runs room blocks kept whole some fits between has_room t.between (own ∙ t.others);
       none_short = λ i. absurd (cc);
       short_none = λ all. absurd (let short = all_short_at size (free_runs s) c all among in omega arith);
       aligned = ((between_within c 16 end s.held sound.blocks between).begins, between_aligned c 16 end s.held refl sound.aligned between);
     }
 
-placed_nowhere : (size : ℕ) (s : Space) (runs : List Run) (room blocks : ℕ) → IsKept s runs room blocks → shortest_fit size (free_runs s) ≡ None
+placed_nowhere : (size : ℕ) (s : Space) (runs : List Run) (room blocks : ℕ) → KeepsRuns s runs room blocks → shortest_fit size (free_runs s) ≡ None
     → IsPlaced size s room blocks (record { block = None; current = None; others = free_runs s }) (take_shortest size s None)
 placed_nowhere size s runs room blocks kept e =
     let sound = kept.sound in
@@ -126,9 +126,9 @@ placed_nowhere size s runs room blocks kept e =
       aligned = tt;
     }
 
-placed_shortest : (size : ℕ) (s : Space) (r : Run) (runs : List Run) (room blocks : ℕ) → IsKept s runs room blocks → shortest_fit size (free_runs s) ≡ Some r
+placed_shortest : (size : ℕ) (s : Space) (r : Run) (runs : List Run) (room blocks : ℕ) → KeepsRuns s runs room blocks → shortest_fit size (free_runs s) ≡ Some r
     → size % 16 ≡ 0 → 0 < size → length s.held + 1 < room
-    → IsPlaced size s room blocks (record { block = Some (run r.place size); current = if_any (rest_of size r); others = remove_by place_of r.place (free_runs s) }) (take_shortest size s (Some r))
+    → IsPlaced size s room blocks (record { block = Some (run r.place size); current = if_any (run_rest size r); others = remove_by place_of r.place (free_runs s) }) (take_shortest size s (Some r))
 placed_shortest size s r runs room blocks kept e whole some has_room =
     let end = places_end s.capacity in
     let sound = kept.sound in
@@ -140,7 +140,7 @@ placed_shortest size s r runs room blocks kept e whole some has_room =
     remove_by_is_without r 16 end (free_runs s) (gaps-spread 16 end s.held sound.blocks) found.among in
     let all = gaps 16 end (insert_run (run r.place size) s.held) in
     let held' = insert_run (run r.place size) s.held in
-    let rest = rest_of size r in
+    let rest = run_rest size r in
     record {
       place = refl;
       space = refl;
@@ -159,13 +159,13 @@ placed_shortest size s r runs room blocks kept e whole some has_room =
     }
 
 -- by what the search found
-placed_by : (size : ℕ) (s : Space) (runs : List Run) (room blocks : ℕ) → IsKept s runs room blocks → size % 16 ≡ 0 → 0 < size → length s.held + 1 < room
+placed_by : (size : ℕ) (s : Space) (runs : List Run) (room blocks : ℕ) → KeepsRuns s runs room blocks → size % 16 ≡ 0 → 0 < size → length s.held + 1 < room
     → (o : Option Run) → shortest_fit size (free_runs s) ≡ o
-    → IsPlaced size s room blocks (record { block = block_in size o; current = left_of size o; others = without_found o (free_runs s) }) (take_shortest size s o)
+    → IsPlaced size s room blocks (record { block = block_in size o; current = left_in_run size o; others = without_found o (free_runs s) }) (take_shortest size s o)
 placed_by size s runs room blocks kept whole some has_room None e = placed_nowhere size s runs room blocks kept e
 placed_by size s runs room blocks kept whole some has_room (Some r) e = placed_shortest size s r runs room blocks kept e whole some has_room
 
-placed_from : (size : ℕ) (s : Space) (runs : List Run) (room blocks : ℕ) → IsKept s runs room blocks → size % 16 ≡ 0 → 0 < size → length s.held + 1 < room
+placed_from : (size : ℕ) (s : Space) (runs : List Run) (room blocks : ℕ) → KeepsRuns s runs room blocks → size % 16 ≡ 0 → 0 < size → length s.held + 1 < room
     → (o : Option Run) → s.current ≡ o → IsPlaced size s room blocks (place_in size o runs) (take_from size s o)
 placed_from size s runs room blocks kept whole some has_room None e =
     let all : runs ≡ free_runs s = (rw e at kept.others) ∙ without_none (free_runs s) in
@@ -188,14 +188,14 @@ pub record PlaceKept (size : ℕ) (s : Space) (runs : List Run) (room blocks : �
   pub all : with_current s.current runs ≡ free_runs s
   pub placed : IsPlaced size s room blocks (place_in size s.current runs) (take size s)
 
-pub place_kept : (size : ℕ) (s : Space) (runs : List Run) (room more blocks : ℕ) → IsKept s runs room blocks → room ≤ more → size % 16 ≡ 0 → 0 < size → blocks + 2 ≤ more
+pub place_kept : (size : ℕ) (s : Space) (runs : List Run) (room more blocks : ℕ) → KeepsRuns s runs room blocks → room ≤ more → size % 16 ≡ 0 → 0 < size → blocks + 2 ≤ more
     → PlaceKept size s runs more blocks
 place_kept size s runs room more blocks kept l whole some enough =
     let end = places_end s.capacity in
     let sound = kept.sound in
     let count : blocks ≡ length s.held = kept.count in
     let has_room : length s.held < room = kept.has_room in
-    let wider : IsKept s runs more blocks = record { sound = sound; others = kept.others; count = count; has_room = omega arith } in
+    let wider : KeepsRuns s runs more blocks = record { sound = sound; others = kept.others; count = count; has_room = omega arith } in
     let all : with_current s.current runs ≡ free_runs s = ap (with_current s.current) kept.others ∙ with_current_is s.current 16 end s.held sound.blocks sound.current in
     let few = length-gaps 16 end s.held in
     let small = places_end_fits s.capacity in
@@ -209,21 +209,21 @@ place_kept size s runs room more blocks kept l whole some enough =
 
 -- what the steps leave where they place no block
 pub record AfterNone (size : ℕ) (s : Space) (current : Option Run) (others : List Run) (room blocks : ℕ) : Type 0 where
-  pub kept : IsKept (record { capacity = s.capacity; held = s.held; current = current }) others room blocks
+  pub kept : KeepsRuns (record { capacity = s.capacity; held = s.held; current = current }) others room blocks
   pub space : record { capacity = s.capacity; held = s.held; current = current } ≡ (take size s).space
   pub place : None ≡ (take size s).place
   pub short : All (λ r. r.length < size) (free_runs s)
 
-pub after_none : (size : ℕ) (s : Space) (room blocks : ℕ) (by : Placing) (block current : Option Run) (others : List Run) → IsPlaced size s room blocks by (take size s)
+pub after_none : (size : ℕ) (s : Space) (room blocks : ℕ) (by : PlacedBlock) (block current : Option Run) (others : List Run) → IsPlaced size s room blocks by (take size s)
     → block ≡ by.block → current ≡ by.current → others ≡ by.others → block ≡ None → AfterNone size s current others room blocks
 after_none size s room blocks by block current others p eb ec eo none =
     let own : by.block ≡ None = sym eb ∙ none in
     let space : (take size s).space ≡ record { capacity = s.capacity; held = s.held; current = current } =
     p.space ∙ ap (λ o. record { capacity = s.capacity; held = held_with o s.held; current = by.current }) own ∙ ap (λ o. record { capacity = s.capacity; held = s.held; current = o }) (sym ec) in
-    let kept = subst (λ z. IsKept z by.others room (blocks_with by.block blocks)) space p.kept in
-    let fewer = subst (λ o. IsKept (record { capacity = s.capacity; held = s.held; current = current }) by.others room (blocks_with o blocks)) own kept in
+    let kept = subst (λ z. KeepsRuns z by.others room (blocks_with by.block blocks)) space p.kept in
+    let fewer = subst (λ o. KeepsRuns (record { capacity = s.capacity; held = s.held; current = current }) by.others room (blocks_with o blocks)) own kept in
     record {
-      kept = subst (λ l. IsKept (record { capacity = s.capacity; held = s.held; current = current }) l room blocks) (sym eo) fewer;
+      kept = subst (λ l. KeepsRuns (record { capacity = s.capacity; held = s.held; current = current }) l room blocks) (sym eo) fewer;
       space = sym space;
       place = sym (p.place ∙ ap (option_map (λ b. b.place)) own);
       short = All-from_recursion (λ r. r.length < size) (free_runs s) (p.none_short own);
@@ -231,24 +231,24 @@ after_none size s room blocks by block current others p eb ec eo none =
 
 -- and where they place one
 pub record AfterSome (size : ℕ) (s : Space) (b : Run) (current : Option Run) (others : List Run) (room blocks : ℕ) : Type 0 where
-  pub kept : IsKept (record { capacity = s.capacity; held = insert_run b s.held; current = current }) others room (blocks + 1)
+  pub kept : KeepsRuns (record { capacity = s.capacity; held = insert_run b s.held; current = current }) others room (blocks + 1)
   pub space : record { capacity = s.capacity; held = insert_run b s.held; current = current } ≡ (take size s).space
   pub place : Some b.place ≡ (take size s).place
   pub fits : All (λ r. r.length < size) (free_runs s) → ⊥
   pub low : 16 ≤ b.place
   pub aligned : b.place % 16 ≡ 0
 
-pub after_some : (size : ℕ) (s : Space) (room blocks : ℕ) (by : Placing) (block current : Option Run) (others : List Run) (b : Run) → IsPlaced size s room blocks by (take size s)
+pub after_some : (size : ℕ) (s : Space) (room blocks : ℕ) (by : PlacedBlock) (block current : Option Run) (others : List Run) (b : Run) → IsPlaced size s room blocks by (take size s)
     → block ≡ by.block → current ≡ by.current → others ≡ by.others → block ≡ Some b → AfterSome size s b current others room blocks
 after_some size s room blocks by block current others b p eb ec eo some =
     let own : by.block ≡ Some b = sym eb ∙ some in
     let space : (take size s).space ≡ record { capacity = s.capacity; held = insert_run b s.held; current = current } =
     p.space ∙ ap (λ o. record { capacity = s.capacity; held = held_with o s.held; current = by.current }) own ∙ ap (λ o. record { capacity = s.capacity; held = insert_run b s.held; current = o }) (sym ec) in
-    let kept = subst (λ z. IsKept z by.others room (blocks_with by.block blocks)) space p.kept in
-    let more = subst (λ o. IsKept (record { capacity = s.capacity; held = insert_run b s.held; current = current }) by.others room (blocks_with o blocks)) own kept in
+    let kept = subst (λ z. KeepsRuns z by.others room (blocks_with by.block blocks)) space p.kept in
+    let more = subst (λ o. KeepsRuns (record { capacity = s.capacity; held = insert_run b s.held; current = current }) by.others room (blocks_with o blocks)) own kept in
     let at = subst (λ o. MatchOption o (Unit {0}) (λ b. (16 ≤ b.place) × (b.place % 16 ≡ 0))) own p.aligned in
     record {
-      kept = subst (λ l. IsKept (record { capacity = s.capacity; held = insert_run b s.held; current = current }) l room (blocks + 1)) (sym eo) more;
+      kept = subst (λ l. KeepsRuns (record { capacity = s.capacity; held = insert_run b s.held; current = current }) l room (blocks + 1)) (sym eo) more;
       space = sym space;
       place = sym (p.place ∙ ap (option_map (λ b. b.place)) own);
       fits = λ all. let none = p.short_none (recursion_from_All (λ r. r.length < size) (free_runs s) all) in let e : None ≡ Some b = sym none ∙ own in cc;
@@ -270,7 +270,7 @@ non_zero_aligned None n a e = tt
 non_zero_aligned (Some x) n a e = let same : non_zero_u32_get x ≡ n = e in rw same a
 
 -- the number of blocks is far from the greatest usize
-pub blocks_fit : (s : Space) (runs : List Run) (room blocks : ℕ) → IsKept s runs room blocks → blocks < 2 ^ 32
+pub blocks_fit : (s : Space) (runs : List Run) (room blocks : ℕ) → KeepsRuns s runs room blocks → blocks < 2 ^ 32
 blocks_fit s runs room blocks kept =
     let few = length-spread 16 (places_end s.capacity) s.held kept.sound.blocks in
     let small = places_end_fits s.capacity in

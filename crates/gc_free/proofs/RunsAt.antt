@@ -6,7 +6,7 @@ use Rattle.gc_free.specs.declared.run.Run.{Run}
 use Rattle.gc_free.specs.Runs.{end_of, without, begins_at, IsSpread}
 use Rattle.gc_free.specs.Space.{Space, IsBetween, IsSound, places_end, free_runs}
 use Rattle.gc_free.specs.Listed.{current_at}
-use Rattle.gc_free.specs.Kept.{is_current, IsKept}
+use Rattle.gc_free.specs.Kept.{is_current, KeepsRuns}
 use Rattle.gc_free.proofs.ByLength.{In, In-place}
 use Rattle.gc_free.proofs.TwoOrdersKept.{In-insert_run}
 use Rattle.gc_free.proofs.MergedRuns.{without_none}
@@ -65,11 +65,11 @@ by_others s (Some c) own place sound e =
     ]
 
 -- where the current run begins there
-pub at_current : (s : Space) (runs : List Run) (room blocks place : ℕ) (r : Run) → IsKept s runs room blocks → current_at place s.current ≡ Some r
+pub at_current : (s : Space) (runs : List Run) (room blocks place : ℕ) (r : Run) → KeepsRuns s runs room blocks → current_at place s.current ≡ Some r
     → find (begins_at place) (free_runs s) ≡ Some r
 at_current s runs room blocks place r kept e = by_current s s.current refl place r kept.sound e
 
 -- and where it doesn't
-pub at_other : (s : Space) (runs : List Run) (room blocks place : ℕ) → IsKept s runs room blocks → current_at place s.current ≡ None
+pub at_other : (s : Space) (runs : List Run) (room blocks place : ℕ) → KeepsRuns s runs room blocks → current_at place s.current ≡ None
     → find (begins_at place) runs ≡ find (begins_at place) (free_runs s)
 at_other s runs room blocks place kept e = ap (find (begins_at place)) kept.others ∙ by_others s s.current refl place kept.sound e

@@ -5,7 +5,7 @@ use Rattle.std.specs.List.{AllByRecursion}
 use Rattle.gc_free.specs.declared.run.Run.{Run}
 use Rattle.gc_free.specs.Runs.{run, end_of, gap, gaps, insert_run, remove_by, without, begins_at, IsSpread}
 use Rattle.gc_free.specs.Orders.{shortest_fit, shorter_fit}
-use Rattle.gc_free.specs.Space.{IsBetween, IsAligned, AllAligned, rest_of}
+use Rattle.gc_free.specs.Space.{IsBetween, IsAligned, AllAligned, run_rest}
 use Rattle.gc_free.proofs.ByLength.{In, In-place, place_of}
 use Rattle.gc_free.proofs.Spread.{none_begins}
 use Rattle.gc_free.proofs.Slots.{lower, upper, before, behind, gaps-split, gaps-around, before-under, behind-over, spread-behind, Under, Over}
@@ -30,16 +30,16 @@ others_at from end q hs ts at e l =
     ap (without (begins_at q)) (gaps-split from end hs ts) ∙ middle.rest ∙ ap (λ g. before from hs ++ (g ++ behind end ts)) (gap_dropped q lo hi (sym e))
 
 -- a block at the front of the run in a slot
-pub record IsTaken (c : Run) (size from end : ℕ) (held : List Run) : Type 0 where
+pub record AnswersTake (c : Run) (size from end : ℕ) (held : List Run) : Type 0 where
   pub blocks : IsSpread from end (insert_run (run c.place size) held)
   pub aligned : IsAligned (run c.place size) → AllAligned held → AllAligned (insert_run (run c.place size) held)
   pub count : length (insert_run (run c.place size) held) ≡ suc (length held)
-  pub between : IsBetween (rest_of size c) from end (insert_run (run c.place size) held)
+  pub between : IsBetween (run_rest size c) from end (insert_run (run c.place size) held)
   pub others : without (begins_at c.place) (gaps from end held) ≡ without (begins_at (c.place + size)) (gaps from end (insert_run (run c.place size) held))
   pub whole : c.length ≡ size → without (begins_at c.place) (gaps from end held) ≡ gaps from end (insert_run (run c.place size) held)
 
 taken_at : (c : Run) (size from end : ℕ) (hs ts : List Run) → IsSpread from end (hs ++ ts) → c.place ≡ lower from hs → end_of c ≡ upper end ts → 0 < size → size ≤ c.length
-    → IsTaken c size from end (hs ++ ts)
+    → AnswersTake c size from end (hs ++ ts)
 taken_at c size from end hs ts up begins ends some fits =
     let b = run c.place size in
     let lo = lower from hs in let hi = upper end ts in
@@ -54,16 +54,16 @@ taken_at c size from end hs ts up begins ends some fits =
       blocks = rw e (spread-insert b from end hs ts up (omega arith) some (omega arith));
       aligned = λ a all. rw e (aligned-insert b hs ts a all);
       count = rw e (length-slot b hs ts);
-      between = rw e (between_behind (rest_of size c) from end hs b ts refl (let f : c.place + size + (c.length - size) ≡ c.place + c.length = omega arith in f ∙ ends));
+      between = rw e (between_behind (run_rest size c) from end hs b ts refl (let f : c.place + size + (c.length - size) ≡ c.place + c.length = omega arith in f ∙ ends));
       others = left ∙ sym (ap (λ l. without (begins_at (c.place + size)) (gaps from end l)) e ∙ ap (without (begins_at (end_of b))) around ∙ middle.rest
           ∙ ap (λ g. before from hs ++ (g ++ behind end ts)) (gap_dropped (end_of b) (end_of b) hi refl));
       whole = λ all. left ∙ sym (ap (gaps from end) e ∙ around ∙ ap (λ g. before from hs ++ (g ++ behind end ts)) (gap_none (end_of b) hi (omega arith)));
     }
 
-pub taken : (c : Run) (size from end : ℕ) (held : List Run) → IsSpread from end held → IsBetween c from end held → 0 < size → size ≤ c.length → IsTaken c size from end held
+pub taken : (c : Run) (size from end : ℕ) (held : List Run) → IsSpread from end held → IsBetween c from end held → 0 < size → size ≤ c.length → AnswersTake c size from end held
 taken c size from end held up between some fits =
     let s = between_slot c from end held between in
-    subst (λ l. IsSpread from end l → IsTaken c size from end l) (sym s.is) (λ u. taken_at c size from end s.front s.back u s.begins s.ends some fits) up
+    subst (λ l. IsSpread from end l → AnswersTake c size from end l) (sym s.is) (λ u. taken_at c size from end s.front s.back u s.begins s.ends some fits) up
 
 -- the current run goes back among the others
 pub record IsPutBack (c : Run) (from end : ℕ) (held : List Run) : Type 0 where

@@ -10,7 +10,7 @@ is_current None r = false
 is_current (Some c) r = begins_at c.place r
 
 -- the other runs are kept, with room for as many as the blocks can leave
-pub record IsKept (s : Space) (runs : List Run) (room blocks : ℕ) : Type 0 where
+pub record KeepsRuns (s : Space) (runs : List Run) (room blocks : ℕ) : Type 0 where
   pub sound : IsSound s
   pub others : runs ≡ without (is_current s.current) (free_runs s)
   pub count : blocks ≡ length s.held

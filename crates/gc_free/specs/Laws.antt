@@ -25,11 +25,11 @@ abbrev pub FreeRunsAreMaximal : Type 0
 FreeRunsAreMaximal = (s : Space) → IsSound s → StandApart (free_runs s)
 
 -- free and held bytes add up to the managed bytes
-abbrev pub bytes_of : List Run → ℕ
-bytes_of rs = sum_by (λ r. r.length) rs
+abbrev pub bytes_in_runs : List Run → ℕ
+bytes_in_runs rs = sum_by (λ r. r.length) rs
 
 abbrev pub BytesAddUp : Type 0
-BytesAddUp = (s : Space) → IsSound s → bytes_of (free_runs s) + bytes_of s.held ≡ places_end s.capacity - ALIGN
+BytesAddUp = (s : Space) → IsSound s → bytes_in_runs (free_runs s) + bytes_in_runs s.held ≡ places_end s.capacity - ALIGN
 
 -- once all blocks are back, there is at most one run
 abbrev pub AllBackLeavesOneRun : Type 0

@@ -44,8 +44,8 @@ pub record Taken : Type 0 where
   pub space : Space
 
 -- what is left of a run behind a block of a size at its front
-abbrev pub rest_of : ℕ → Run → Run
-rest_of size r = run (r.place + size) (r.length - size)
+abbrev pub run_rest : ℕ → Run → Run
+run_rest size r = run (r.place + size) (r.length - size)
 
 -- a run, if it has any places
 abbrev pub if_any : Run → Option Run
@@ -59,12 +59,12 @@ taken_from size s r current =
 -- the front of the shortest run that is long enough, whose rest becomes current; where none is, there is no current run
 abbrev pub take_shortest : ℕ → Space → Option Run → Taken
 take_shortest size s None = record { place = None; space = record { capacity = s.capacity; held = s.held; current = None } }
-take_shortest size s (Some r) = taken_from size s r (if_any (rest_of size r))
+take_shortest size s (Some r) = taken_from size s r (if_any (run_rest size r))
 
 -- the front of the current run where it is long enough, whose rest stays current, and else that of the shortest
 abbrev pub take_from : ℕ → Space → Option Run → Taken
 take_from size s None = take_shortest size s (shortest_fit size (free_runs s))
-take_from size s (Some c) = cond (nat_le size c.length) (taken_from size s c (Some (rest_of size c))) (take_shortest size s (shortest_fit size (free_runs s)))
+take_from size s (Some c) = cond (nat_le size c.length) (taken_from size s c (Some (run_rest size c))) (take_shortest size s (shortest_fit size (free_runs s)))
 
 -- the placing rule
 abbrev pub take : ℕ → Space → Taken

@@ -5,9 +5,9 @@ use Rattle.gc_free.specs.Memory.{Memory, memory_code}
 use Rattle.gc_free.specs.Space.{Space, space_code}
 
 -- the space that it stands for, and the memory that it takes for it
-pub record View : Type 0 where
+pub record FreeListView : Type 0 where
   pub space : Space
   pub memory : Memory
 
-abbrev pub view_code : Coded View
+abbrev pub view_code : Coded FreeListView
 view_code = code_by (Space × Memory) (coded× space_code memory_code) (λ v. (v.space, v.memory)) (λ p. record { space = p.0; memory = p.1 }) (λ _. refl)

@@ -32,20 +32,20 @@ pub struct FreeList {
 }
 
 impl Model for FreeList {
-    ghost use Rattle.gc_free.specs.View.{View, view_code};
+    ghost use Rattle.gc_free.specs.View.{FreeListView, view_code};
 
-    ghost Value = { View };
+    ghost Value = { FreeListView };
 
     ghost coded = { view_code };
 
-    ghost use Rattle.gc_free.specs.Kept.{IsKept};
+    ghost use Rattle.gc_free.specs.Kept.{KeepsRuns};
 
     ghost view = { λ l. record {
       space = record { capacity = l.capacity; held = l.held.blocks; current = l.current };
       memory = l.others.memory;
     } };
 
-    ghost invariant = { λ l. IsKept (record { capacity = l.capacity; held = l.held.blocks; current = l.current })
+    ghost invariant = { λ l. KeepsRuns (record { capacity = l.capacity; held = l.held.blocks; current = l.current })
         l.others.runs l.others.room l.blocks };
 }
 

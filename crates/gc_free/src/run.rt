@@ -1,7 +1,7 @@
 //! A run of places.
 ghost use Rattle.std.specs.Prelude.{◌≡◌, ◌+◌, ◌-◌, ◌^◌, ◌<◌, ◌≤◌};
 ghost use Rattle.gc_free.specs.Runs.{run, end_of, gap};
-ghost use Rattle.gc_free.specs.Space.{touches, rest_of, if_any, places_end, first_of_runs};
+ghost use Rattle.gc_free.specs.Space.{touches, run_rest, if_any, places_end, first_of_runs};
 ghost use Rattle.gc_free.specs.Merged.{join, join_if_any};
 
 /// Every place and every block's size is a multiple of these bytes, which are the first managed place.
@@ -90,7 +90,7 @@ impl Run {
     pub(crate) fn rest(self, size: u32) -> Run
         requires fits { size ≤ self.length }
         requires own_end { end_of self < 2 ^ 32 }
-        ensures { result ≡ rest_of size self }
+        ensures { result ≡ run_rest size self }
     {
         Run {
             place: self.place + size,

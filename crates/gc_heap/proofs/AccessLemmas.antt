@@ -6,7 +6,7 @@ use Rattle.gc_types.specs.declared.kind.Layouts.{Layouts}
 use Rattle.gc_types.specs.declared.kind.VMGcKind.{VMGcKind}
 use Rattle.gc_types.specs.declared.kind.VMGcKind.TheVariants.{ExternRef, AnyRef, EqRef, StructRef, ArrayRef, ExnRef}
 use Rattle.gc_types.specs.Layouts.{struct_base}
-use Rattle.gc_refs.specs.Views.{part_of, Reads}
+use Rattle.gc_refs.specs.Views.{part_of, ReadsNumber}
 use Rattle.gc_refs.specs.declared.fault.DataFault.{DataFault}
 use Rattle.gc_view.specs.Heaps.{HeapObject, HeapView}
 use Rattle.gc_heap.specs.Objects.{held_size, size_with, data_offset, HasFields, IsObjectData}
@@ -60,11 +60,11 @@ part_in_data layouts o bytes offset n fields told from to =
 pub reads_data : {A : Type 0} (number : List ℕ → A) (layouts : Layouts) (h : HeapView) (place offset n : ℕ) (bytes : List ℕ) (result : Result A DataFault) (value : A)
     → IsReadable layouts h place offset n
     → ((o : HeapObject) → get h.content place ≡ Some o → IsObjectData layouts o bytes)
-    → Reads n number 0 bytes offset result → result ≡ Ok value
+    → ReadsNumber n number 0 bytes offset result → result ≡ Ok value
     → ReadsData layouts h place offset n number value
 reads_data number layouts h place offset n bytes result value inside told read ok = λ o held.
     let same : inside.object ≡ o = some_is _ _ (sym inside.held ∙ held) in
-    let is_read = subst (λ r. Reads n number 0 bytes offset r) ok read in
+    let is_read = subst (λ r. ReadsNumber n number 0 bytes offset r) ok read in
     is_read.1 ∙ ap number (part_in_data layouts o bytes offset n (subst (λ o. HasFields o.kind) same inside.has_fields) (told o held) inside.from (subst (λ o. offset + n ≤ held_size layouts o) same inside.to))
   where
     some_is : (a b : HeapObject) → Some a ≡ Some b → a ≡ b

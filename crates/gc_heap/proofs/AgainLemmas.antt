@@ -16,7 +16,7 @@ use Rattle.gc_view.proofs.ByteLemmas.{u32_in_same}
 use Rattle.gc_heap.specs.Objects.{held_size, writable_offset, host_id}
 use Rattle.gc_heap.specs.References.{reference_offsets, typed_offsets, references, word_in, Spaced}
 use Rattle.gc_heap.specs.Content.{IsHeld, IsHeap, IsSpare, TracesInside}
-use Rattle.gc_heap.specs.Collection.{Start, CanCollect, AreCounted, IsWordOf, IsExternal, Reached, by_root, by_field, Kept, moved, moved_root, IsNoReference, IsMoved, Collected, KindCollected}
+use Rattle.gc_heap.specs.Collection.{Start, CanCollect, AreCounted, IsWordOf, IsExternal, ReachedPlace, by_root, by_field, Kept, moved, moved_root, IsNoReference, IsMoved, Collected, KindCollected}
 use Rattle.gc_heap.proofs.SpacedLemmas.{Spaced-in}
 use Rattle.gc_memory.proofs.ListLemmas.{only_item, contains_in, in_contains, in_map, map_in}
 use Rattle.gc_heap.proofs.ReferenceLemmas.{HasSameShape, references_spaced, same_offsets, typed_kept, external_none}
@@ -34,7 +34,7 @@ kept_by_field Null s place from o held kept got among = held
 kept_by_field Counting s place from o held kept got among = by_field held kept o got among
 kept_by_field Copying s place from o held kept got among = by_field held kept o got among
 
-reached_held : (layouts : Layouts) (s : Start) (place : ℕ) → Reached layouts s place → IsHeld s.heap place
+reached_held : (layouts : Layouts) (s : Start) (place : ℕ) → ReachedPlace layouts s place → IsHeld s.heap place
 reached_held layouts s _ (by_root held r among is) = held
 reached_held layouts s _ (by_field held reached o got among) = held
 

@@ -13,10 +13,10 @@ use Rattle.gc_memory.specs.Offsets.{array_length_offset, external_size, host_id_
 use Rattle.gc_view.proofs.ByteLemmas.{length-put_u32}
 use Rattle.gc_view.specs.Heaps.{HeapObject, HeapView}
 use Rattle.gc_heap.specs.Heap.{Allocated, CanAllocate, array_size, layout_kind, new_array}
-use Rattle.gc_heap.specs.Making.{CanMake, made, with_word, word_end}
+use Rattle.gc_heap.specs.Making.{CanMake, made, with_first_word, word_end}
 use Rattle.gc_heap.specs.Objects.{zeroed_array}
 use Rattle.gc_heap.specs.Rules.{LayoutTraces, array_spare, struct_spare}
-use Rattle.gc_heap.specs.declared.heap.HeapFault.{HeapFault}
+use Rattle.gc_heap.specs.declared.fault.HeapFault.{HeapFault}
 use Rattle.gc_heap.specs.declared.new_object.FirstWord.{FirstWord}
 use Rattle.gc_heap.specs.declared.new_object.FirstWord.TheVariants as first
 use Rattle.gc_heap.proofs.TraceLemmas.{can_allocate_struct, kind_fields}
@@ -115,7 +115,7 @@ made_kind layouts h (first.Host id) size can = (ExternRef, external_kind h can.0
 
 -- a first word that is written leaves the number of bytes
 pub with_word-length : (layouts : Layouts) (bytes : List ℕ) (place : ℕ) (word : FirstWord) → place + word_end layouts word ≤ length bytes
-    → length (with_word layouts bytes place word) ≡ length bytes
+    → length (with_first_word layouts bytes place word) ≡ length bytes
 with_word-length layouts bytes place first.Zero inside = refl
 with_word-length layouts bytes place (first.Length count) inside = length-put_u32 bytes (place + array_length_offset layouts) count (omega arith)
 with_word-length layouts bytes place (first.Host id) inside = length-put_u32 bytes (place + host_id_offset layouts) (id + 1) (omega arith)

@@ -21,7 +21,7 @@ use Rattle.gc_heap.specs.Content.{LiesAtPlace}
 use Rattle.gc_heap.specs.Lying.{LiesIn}
 use Rattle.gc_heap.specs.Heap.{grown, put_object, with_data, IsWritable}
 use Rattle.gc_heap.specs.Barriers.{cloned, dropped, exposed, copied, emptied, overwritten, raise, lower, show}
-use Rattle.gc_heap.specs.NullWalk.{first_place, size_at, object_at, IsHost, LiesAt, header_in}
+use Rattle.gc_heap.specs.NullWalk.{bump_first_place, bump_size_at, bump_object_at, HasBumpHost, BumpLiesAt, header_in}
 use Rattle.gc_heap.specs.NullWalkLaws.{least, object_bytes, length-object, held_is, LiesAmong}
 use Rattle.gc_heap.proofs.NullWalkLemmas.{object_ty, size_word, len_entries}
 use Rattle.gc_heap.specs.NullStates.{bump_view, view_of, null_seen, HasMemory, IsBumped, IsNullSound, IsNullTaken}
@@ -56,17 +56,17 @@ held_in h bytes q object is held = subst (λ (v : HeapView). map.get v.content q
 
 -- what is held lies in the memory
 pub lies_in : (h : NullHeap) (bytes : List ℕ) (q : ℕ) (object : HeapObject) → IsNullSound h → h.memory ≡ Some bytes
-    → map.get (null_seen h).content q ≡ Some object → LiesAmong bytes first_place (round_up h.next alignment) q object
+    → map.get (null_seen h).content q ≡ Some object → LiesAmong bytes bump_first_place (round_up h.next alignment) q object
 lies_in h bytes q object sound is held =
     held_lies bytes h.next h.objects h.scopes q object (bumped_in h bytes is sound) (held_in h bytes q object is held)
 
 -- An object lies whole at a place of a memory.
 pub record Lies (bytes : List ℕ) (q : ℕ) (object : HeapObject) : Type 0 where
-  pub lies : LiesAt bytes q
-  pub is : object ≡ object_at bytes q
+  pub lies : BumpLiesAt bytes q
+  pub is : object ≡ bump_object_at bytes q
   pub aligned : q % 16 ≡ 0
   pub size : u32_at bytes q % spare_bits ≡ held_size Null object
-  pub length_is : length object.bytes ≡ size_at bytes q - 8
+  pub length_is : length object.bytes ≡ bump_size_at bytes q - 8
 
 pub lies_whole : (h : NullHeap) (bytes : List ℕ) (q : ℕ) (object : HeapObject) → IsNullSound h → h.memory ≡ Some bytes
     → map.get (null_seen h).content q ≡ Some object → Lies bytes q object
@@ -93,9 +93,9 @@ pub data_is : (bytes : List ℕ) (q : ℕ) (object : HeapObject) → Lies bytes 
 data_is bytes q object l =
     let n : ℕ = held_size Null object in
     let part : List ℕ = take n (drop q bytes) in
-    let size : n ≡ size_at bytes q = sym l.size ∙ sym (size_word bytes q) in
-    let least_size : 8 ≤ size_at bytes q = least l.lies in
-    let inside : q + size_at bytes q ≤ length bytes = l.lies.inside in
+    let size : n ≡ bump_size_at bytes q = sym l.size ∙ sym (size_word bytes q) in
+    let least_size : 8 ≤ bump_size_at bytes q = least l.lies in
+    let inside : q + bump_size_at bytes q ≤ length bytes = l.lies.inside in
     let whole : 8 + (n - 8) ≡ n = omega arith in
     let length_is : length object.bytes ≡ n - 8 = l.length_is ∙ ap (λ k. k - 8) (sym size) in
     let h : Header = header_in bytes q in
@@ -163,7 +163,7 @@ null_overwritten h destination source =
 
 count_of : (m : Option (List ℕ)) (next objects scopes : ℕ) → HasMemory m next objects → objects ≡ map.len (view_of m next objects scopes).content
 count_of None next objects scopes s = s.1 ∙ sym (map.len-empty nat_cmp HeapObject)
-count_of (Some bytes) next objects scopes s = sym (len_entries objects bytes first_place (round_up next alignment) s.follow)
+count_of (Some bytes) next objects scopes s = sym (len_entries objects bytes bump_first_place (round_up next alignment) s.follow)
 
 pub null_count : (h : NullHeap) → IsNullSound h → h.objects ≡ map.len (null_seen h).content
 null_count h sound = count_of h.memory h.next h.objects h.scopes sound.memory
@@ -226,12 +226,12 @@ put_same v q object held =
     (map.same_map nat_cmp_total map.nat_cmp-IsAntisymmetric v.content (map.insert v.content q object) (λ k. grind (arith, common_steps, map.gets)))
 
 host_in : (h : NullHeap) (m : Option (List ℕ)) (q : ℕ) (object : HeapObject) → h.memory ≡ m → IsNullSound h → map.get (null_seen h).content q ≡ Some object
-    → object.kind ≡ ExternRef → IsHost object
+    → object.kind ≡ ExternRef → HasBumpHost object
 host_in h None q object is sound held kind = absurd (nothing_held h q object is held)
 host_in h (Some bytes) q object is sound held kind =
     let l = lies_whole h bytes q object sound is held in
-    subst IsHost (sym l.is) (l.lies.host (ap (λ (o : HeapObject). o.kind) (sym l.is) ∙ kind))
+    subst HasBumpHost (sym l.is) (l.lies.host (ap (λ (o : HeapObject). o.kind) (sym l.is) ∙ kind))
 
 pub null_host : (h : NullHeap) (q : ℕ) (object : HeapObject) → IsNullSound h → map.get (null_seen h).content q ≡ Some object
-    → object.kind ≡ ExternRef → IsHost object
+    → object.kind ≡ ExternRef → HasBumpHost object
 null_host h q object sound held kind = host_in h h.memory q object refl sound held kind

@@ -22,7 +22,7 @@ use Rattle.gc_view.specs.Heaps.{HeapObject}
 use Rattle.gc_view.specs.Bytes.{put_bytes, SameBytes}
 use Rattle.gc_heap.specs.Objects.{held_size, first_offset, writable_offset, IsObjectKind}
 use Rattle.gc_heap.specs.Heap.{IsWritable, with_data, put_object, AddsObject}
-use Rattle.gc_heap.specs.NullWalk.{first_place, size_at, object_at, place_after, entries, IsHost, LiesAt, Follow, data_with, word_end, placed, PlacesObject}
+use Rattle.gc_heap.specs.NullWalk.{bump_first_place, bump_size_at, bump_object_at, place_after, entries, HasBumpHost, BumpLiesAt, Follow, data_with, bump_word_end, placed, AppendsObject}
 use Rattle.gc_heap.specs.NullStates.{bump_view, IsBumped}
 use Rattle.gc_heap.specs.NullWalkLaws.{first_least, least, spare_is, object_bytes, length-object, held_is, LiesAmong, some_is, found_lies}
 use Rattle.gc_heap.proofs.NullWalkLemmas.{find_behind, size_in_same, kind_in_same, ty_in_same, same_object, lies_in_header, follow_in_same, follow_push, rewritten}
@@ -30,10 +30,10 @@ use Rattle.gc_view.proofs.ByteLemmas.{SameBytes-part, SameBytes-then, u32_in_sam
 
 -- what is held lies in the memory
 pub held_lies : (bytes : List ℕ) (next n scopes q : ℕ) (object : HeapObject) → IsBumped bytes next n
-    → map.get (bump_view bytes next n scopes).content q ≡ Some object → LiesAmong bytes first_place (round_up next alignment) q object
+    → map.get (bump_view bytes next n scopes).content q ≡ Some object → LiesAmong bytes bump_first_place (round_up next alignment) q object
 held_lies bytes next n scopes q object s held =
-    found_lies n bytes first_place (round_up next alignment) q object (omega arith) s.follow
-    (sym (map.get-from_entries nat_cmp_total (entries n bytes first_place) q) ∙ held)
+    found_lies n bytes bump_first_place (round_up next alignment) q object (omega arith) s.follow
+    (sym (map.get-from_entries nat_cmp_total (entries n bytes bump_first_place) q) ∙ held)
 
 -- the part that a holder may write is behind the header
 writable_least : (k : VMGcKind) → 8 ≤ writable_offset Null k
@@ -47,7 +47,7 @@ writable_least ExnRef = omega arith
 -- A write of so many bytes at an offset of an object lies behind its header and in the object.
 pub record IsInside (bytes : List ℕ) (q offset count : ℕ) : Type 0 where
   pub from : 8 ≤ offset
-  pub to : offset + count ≤ size_at bytes q
+  pub to : offset + count ≤ bump_size_at bytes q
   pub fits : q + offset + count ≤ length bytes
 
 pub written_inside : (bytes : List ℕ) (next n scopes q offset count : ℕ) (object : HeapObject) → IsBumped bytes next n
@@ -55,7 +55,7 @@ pub written_inside : (bytes : List ℕ) (next n scopes q offset count : ℕ) (ob
     → IsInside bytes q offset count
 written_inside bytes next n scopes q offset count object s r held =
     let l = held_lies bytes next n scopes q r.object s r.held in
-    let size : held_size Null r.object ≡ size_at bytes q = ap (held_size Null) l.is ∙ held_is bytes q l.lies in
+    let size : held_size Null r.object ≡ bump_size_at bytes q = ap (held_size Null) l.is ∙ held_is bytes q l.lies in
     record {
       from = omega (arith, writable_least r.object.kind, r.from);
       to = omega (arith, r.to);
@@ -63,7 +63,7 @@ written_inside bytes next n scopes q offset count object s r held =
     }
 
 -- an external object is written nowhere
-host_written : (o : HeapObject) (offset : ℕ) (ws : List ℕ) → 12 ≤ offset → offset + length ws ≤ 8 + length o.bytes → IsHost o → IsHost (with_data Null o offset ws)
+host_written : (o : HeapObject) (offset : ℕ) (ws : List ℕ) → 12 ≤ offset → offset + length ws ≤ 8 + length o.bytes → HasBumpHost o → HasBumpHost (with_data Null o offset ws)
 host_written o offset ws from to host =
     let fits : offset - 8 + length ws ≤ length o.bytes = omega arith in
     let same : SameBytes o.bytes (put_bytes o.bytes (offset - 8) ws) 0 4 = put_bytes-below o.bytes (offset - 8) ws 0 4 fits (omega arith) in
@@ -75,10 +75,10 @@ host_written o offset ws from to host =
     }
 
 -- a written object: its header stays, and its bytes are written
-written_object : (bytes : List ℕ) (q o : ℕ) (ws : List ℕ) → LiesAt bytes q → IsInside bytes q o (length ws)
-    → object_at (put_bytes bytes (q + o) ws) q ≡ with_data Null (object_at bytes q) o ws
+written_object : (bytes : List ℕ) (q o : ℕ) (ws : List ℕ) → BumpLiesAt bytes q → IsInside bytes q o (length ws)
+    → bump_object_at (put_bytes bytes (q + o) ws) q ≡ with_data Null (bump_object_at bytes q) o ws
 written_object bytes q o ws lies w =
-    let size : ℕ = size_at bytes q in
+    let size : ℕ = bump_size_at bytes q in
     let b : List ℕ = put_bytes bytes (q + o) ws in
     let from : 8 ≤ o = w.from in
     let to : o + length ws ≤ size = w.to in
@@ -99,21 +99,21 @@ same_view c d k l a b scopes content capacity allocated =
     λ i. record (bump_view [] 1 0 scopes) { content = content i; capacity = capacity i; allocated = allocated i }
 
 -- no object ends behind the next place after one was written
-ends_written : (a b : List ℕ) (next n q e : ℕ) → IsBumped a next n → LiesAt a q → LiesAt b q → size_at b q ≡ size_at a q
-    → (o : HeapObject) → o ≡ object_at a q → map.find nat_cmp q (entries n a first_place) ≡ Some o
-    → ((r : ℕ) → map.find nat_cmp r (entries n b first_place) ≡ cond (eq_by_cmp nat_cmp r q) (Some (object_at b q)) (map.find nat_cmp r (entries n a first_place)))
-    → (r : ℕ) (x : HeapObject) → map.find nat_cmp r (entries n b first_place) ≡ Some x → r + held_size Null x ≤ next
+ends_written : (a b : List ℕ) (next n q e : ℕ) → IsBumped a next n → BumpLiesAt a q → BumpLiesAt b q → bump_size_at b q ≡ bump_size_at a q
+    → (o : HeapObject) → o ≡ bump_object_at a q → map.find nat_cmp q (entries n a bump_first_place) ≡ Some o
+    → ((r : ℕ) → map.find nat_cmp r (entries n b bump_first_place) ≡ cond (eq_by_cmp nat_cmp r q) (Some (bump_object_at b q)) (map.find nat_cmp r (entries n a bump_first_place)))
+    → (r : ℕ) (x : HeapObject) → map.find nat_cmp r (entries n b bump_first_place) ≡ Some x → r + held_size Null x ≤ next
 ends_written a b next n q e s at_a at_b size o is found changed r x found_x = elim (cases_eq r q) [
   | inl here ↦
       let tied : eq_by_cmp nat_cmp r q ≡ true = unsigned_tied r q ∙ eq-eqb r q here in
-      let new : x ≡ object_at b q = some_is _ _ (sym (ap (λ t. cond t (Some (object_at b q)) (map.find nat_cmp r (entries n a first_place))) tied) ∙ sym (changed r) ∙ found_x) in
-      let size_x : held_size Null x ≡ size_at b q = ap (held_size Null) new ∙ held_is b q at_b in
-      let size_o : held_size Null o ≡ size_at a q = ap (held_size Null) is ∙ held_is a q at_a in
+      let new : x ≡ bump_object_at b q = some_is _ _ (sym (ap (λ t. cond t (Some (bump_object_at b q)) (map.find nat_cmp r (entries n a bump_first_place))) tied) ∙ sym (changed r) ∙ found_x) in
+      let size_x : held_size Null x ≡ bump_size_at b q = ap (held_size Null) new ∙ held_is b q at_b in
+      let size_o : held_size Null o ≡ bump_size_at a q = ap (held_size Null) is ∙ held_is a q at_a in
       let before : q + held_size Null o ≤ next = s.ends q o found in
       omega arith
   | inr there ↦
       let other : eq_by_cmp nat_cmp r q ≡ false = unsigned_tied r q ∙ ne_eqb r q there in
-      let old : map.find nat_cmp r (entries n a first_place) ≡ Some x = sym (ap (λ t. cond t (Some (object_at b q)) (map.find nat_cmp r (entries n a first_place))) other) ∙ sym (changed r) ∙ found_x in
+      let old : map.find nat_cmp r (entries n a bump_first_place) ≡ Some x = sym (ap (λ t. cond t (Some (bump_object_at b q)) (map.find nat_cmp r (entries n a bump_first_place))) other) ∙ sym (changed r) ∙ found_x in
       s.ends r x old
 ]
 
@@ -128,27 +128,27 @@ pub write_data : (bytes : List ℕ) (next n scopes q o : ℕ) (ws : List ℕ) (o
 write_data bytes next n scopes q o ws object s r held =
     let w = written_inside bytes next n scopes q o (length ws) object s r held in
     let from : 8 ≤ o = w.from in
-    let to : o + length ws ≤ size_at bytes q = w.to in
+    let to : o + length ws ≤ bump_size_at bytes q = w.to in
     let fits : q + o + length ws ≤ length bytes = w.fits in
     let b : List ℕ = put_bytes bytes (q + o) ws in
     let l = held_lies bytes next n scopes q object s held in
     let e : ℕ = round_up next alignment in
-    let es : List (ℕ × HeapObject) = entries n bytes first_place in
-    let front : SameBytes bytes b first_place (q + 8) = put_bytes-below bytes (q + o) ws first_place (q + 8) fits (omega arith) in
-    let back : SameBytes bytes b (q + size_at bytes q) e = put_bytes-above bytes (q + o) ws (q + size_at bytes q) e fits (omega arith) in
+    let es : List (ℕ × HeapObject) = entries n bytes bump_first_place in
+    let front : SameBytes bytes b bump_first_place (q + 8) = put_bytes-below bytes (q + o) ws bump_first_place (q + 8) fits (omega arith) in
+    let back : SameBytes bytes b (q + bump_size_at bytes q) e = put_bytes-above bytes (q + o) ws (q + bump_size_at bytes q) e fits (omega arith) in
     let header : SameBytes bytes b q (q + 8) = put_bytes-below bytes (q + o) ws q (q + 8) fits (omega arith) in
     let found : map.find nat_cmp q es ≡ Some object = sym (map.get-from_entries nat_cmp_total es q) ∙ held in
-    let at_q : object_at b q ≡ with_data Null (object_at bytes q) o ws = written_object bytes q o ws l.lies w in
-    let new : object_at b q ≡ with_data Null object o ws = at_q ∙ ap (λ (x : HeapObject). with_data Null x o ws) (sym l.is) in
-    let same : r.object ≡ object_at bytes q = some_is _ _ (sym held ∙ r.held) ∙ l.is in
-    let length_is : length (object_at bytes q).bytes ≡ size_at bytes q - 8 = length-object bytes q l.lies in
-    let host : (object_at b q).kind ≡ ExternRef → IsHost (object_at b q) =
+    let at_q : bump_object_at b q ≡ with_data Null (bump_object_at bytes q) o ws = written_object bytes q o ws l.lies w in
+    let new : bump_object_at b q ≡ with_data Null object o ws = at_q ∙ ap (λ (x : HeapObject). with_data Null x o ws) (sym l.is) in
+    let same : r.object ≡ bump_object_at bytes q = some_is _ _ (sym held ∙ r.held) ∙ l.is in
+    let length_is : length (bump_object_at bytes q).bytes ≡ bump_size_at bytes q - 8 = length-object bytes q l.lies in
+    let host : (bump_object_at b q).kind ≡ ExternRef → HasBumpHost (bump_object_at b q) =
     λ is.
-    let kind : (object_at bytes q).kind ≡ ExternRef = sym (kind_in_same bytes b q header) ∙ is in
+    let kind : (bump_object_at bytes q).kind ≡ ExternRef = sym (kind_in_same bytes b q header) ∙ is in
     let free : 12 ≤ o = subst (λ (k : VMGcKind). writable_offset Null k ≤ o) (ap (λ (x : HeapObject). x.kind) same ∙ kind) r.from in
-    subst IsHost (sym at_q) (host_written (object_at bytes q) o ws free (omega (arith, least l.lies)) (l.lies.host kind)) in
-    let lies : LiesAt b q = lies_in_header bytes b q header host l.lies in
-    let changed = rewritten n bytes b first_place e q object s.follow found front back lies in
+    subst HasBumpHost (sym at_q) (host_written (bump_object_at bytes q) o ws free (omega (arith, least l.lies)) (l.lies.host kind)) in
+    let lies : BumpLiesAt b q = lies_in_header bytes b q header host l.lies in
+    let changed = rewritten n bytes b bump_first_place e q object s.follow found front back lies in
     record {
       bumped = record {
         begun = s.begun;
@@ -160,7 +160,7 @@ write_data bytes next n scopes q o ws object s r held =
       };
       view = same_view _ _ _ _ _ _ scopes
           (map.same_map nat_cmp_total map.nat_cmp-IsAntisymmetric _ _ (λ k.
-          map.get-from_entries nat_cmp_total (entries n b first_place) k
+          map.get-from_entries nat_cmp_total (entries n b bump_first_place) k
           ∙ changed.found k
           ∙ ap (λ (x : HeapObject). cond (eq_by_cmp nat_cmp k q) (Some x) (map.find nat_cmp k es)) new
           ∙ sym (map.get-insert nat_cmp_total (map.from_entries es) q (with_data Null object o ws) k
@@ -182,18 +182,18 @@ kind_word_tells StructRef size h = record { small = omega arith; tells = omega a
 kind_word_tells ArrayRef size h = record { small = omega arith; tells = omega arith; spare = omega arith }
 kind_word_tells ExnRef size h = record { small = omega arith; tells = omega arith; spare = omega arith }
 
-pub length-data_with : (word : Option ℕ) (size : ℕ) → word_end word ≤ size → length (data_with word size) ≡ size - 8
+pub length-data_with : (word : Option ℕ) (size : ℕ) → bump_word_end word ≤ size → length (data_with word size) ≡ size - 8
 length-data_with None size fits = length-replicate {A = ℕ} (size - 8) 0
 length-data_with (Some word) size fits =
     length-append (to_le_bytes w32 word) (replicate (size - 12) 0) ∙ omega (arith, length-replicate {A = ℕ} (size - 12) 0)
 
 -- a header with data behind it is a new object
-pub places_new : (bytes c : List ℕ) (place : ℕ) (kind : VMGcKind) (ty size : ℕ) (word : Option ℕ) → IsObjectKind kind → first_offset Null kind ≤ size → word_end word ≤ size
-    → (kind ≡ ExternRef → IsHost (placed kind ty word size)) → size < spare_bits → ty < 2 ^ 32 → place + size ≤ length bytes
+pub places_new : (bytes c : List ℕ) (place : ℕ) (kind : VMGcKind) (ty size : ℕ) (word : Option ℕ) → IsObjectKind kind → first_offset Null kind ≤ size → bump_word_end word ≤ size
+    → (kind ≡ ExternRef → HasBumpHost (placed kind ty word size)) → size < spare_bits → ty < 2 ^ 32 → place + size ≤ length bytes
     → SameBytes (put_u32 (put_u32 bytes place (kind_bits kind + size)) (place + 4) ty) c 0 (place + 8)
     → take (length (data_with word size)) (drop (place + 8) c) ≡ data_with word size
-    → PlacesObject bytes c place (placed kind ty word size) size
-unfolding size_at object_at
+    → AppendsObject bytes c place (placed kind ty word size) size
+unfolding bump_size_at bump_object_at
 places_new bytes c place kind ty size word is_kind first ends host small ty_small fits same data_is =
     let kw : ℕ = kind_bits kind + size in
     let t : TellsKind kw kind size = kind_word_tells kind size small in
@@ -204,9 +204,9 @@ places_new bytes c place kind ty size word is_kind first ends host small ty_smal
     let b2 : List ℕ = put_u32 b1 (place + 4) ty in
     let fits1 : place + 4 + 4 ≤ length b1 = omega arith in
     let len2 : length b2 ≡ length b1 = length-put_bytes b1 (place + 4) (to_le_bytes w32 ty) fits1 in
-    let low1 : SameBytes bytes b1 first_place place = put_bytes-below bytes place (to_le_bytes w32 kw) first_place place fits0 (omega arith) in
-    let low2 : SameBytes b1 b2 first_place place = put_bytes-below b1 (place + 4) (to_le_bytes w32 ty) first_place place fits1 (omega arith) in
-    let low3 : SameBytes b2 c first_place place = SameBytes-part same first_place place (omega arith) (omega arith) in
+    let low1 : SameBytes bytes b1 bump_first_place place = put_bytes-below bytes place (to_le_bytes w32 kw) bump_first_place place fits0 (omega arith) in
+    let low2 : SameBytes b1 b2 bump_first_place place = put_bytes-below b1 (place + 4) (to_le_bytes w32 ty) bump_first_place place fits1 (omega arith) in
+    let low3 : SameBytes b2 c bump_first_place place = SameBytes-part same bump_first_place place (omega arith) (omega arith) in
     let head : SameBytes b1 b2 place (place + 4) = put_bytes-below b1 (place + 4) (to_le_bytes w32 ty) place (place + 4) fits1 (omega arith) in
     let word_is : u32_at c place ≡ kw =
     u32_in_same b2 c place (SameBytes-part same place (place + 4) (omega arith) (omega arith))
@@ -215,20 +215,20 @@ places_new bytes c place kind ty size word is_kind first ends host small ty_smal
     let ty_is : u32_at c (place + 4) ≡ ty =
     u32_in_same b2 c (place + 4) (SameBytes-part same (place + 4) (place + 4 + 4) (omega arith) (omega arith))
     ∙ u32_at-put_u32 b1 (place + 4) ty fits1 ty_small in
-    let size_is : size_at c place ≡ size = ap (λ w. w % spare_bits) word_is ∙ t.spare in
-    let kind_is : (object_at c place).kind ≡ kind = ap (λ w. kind_of (kind_part w)) word_is ∙ ap kind_of t.tells ∙ kind_of-kind_bits kind in
-    let bytes_is : (object_at c place).bytes ≡ data_with word size =
+    let size_is : bump_size_at c place ≡ size = ap (λ w. w % spare_bits) word_is ∙ t.spare in
+    let kind_is : (bump_object_at c place).kind ≡ kind = ap (λ w. kind_of (kind_part w)) word_is ∙ ap kind_of t.tells ∙ kind_of-kind_bits kind in
+    let bytes_is : (bump_object_at c place).bytes ≡ data_with word size =
     ap (λ k. take (k - 8) (drop (place + 8) c)) size_is
     ∙ ap (λ k. take k (drop (place + 8) c)) (sym (length-data_with word size ends))
     ∙ data_is in
-    let object_is : object_at c place ≡ placed kind ty word size = same_object _ _ kind_is ty_is refl bytes_is in
+    let object_is : bump_object_at c place ≡ placed kind ty word size = same_object _ _ kind_is ty_is refl bytes_is in
     record {
       below = SameBytes-then (SameBytes-then low1 low2) low3;
       lies = record {
         kind = ap kind_part word_is ∙ t.tells ∙ ap kind_bits (sym kind_is);
         is_kind = subst IsObjectKind (sym kind_is) is_kind;
-        first = subst (λ (k : VMGcKind). first_offset Null k ≤ size_at c place) (sym kind_is) (subst (λ n. first_offset Null kind ≤ n) (sym size_is) first);
-        host = λ e. subst IsHost (sym object_is) (host (sym kind_is ∙ e));
+        first = subst (λ (k : VMGcKind). first_offset Null k ≤ bump_size_at c place) (sym kind_is) (subst (λ n. first_offset Null kind ≤ n) (sym size_is) first);
+        host = λ e. subst HasBumpHost (sym object_is) (host (sym kind_is ∙ e));
         inside = omega (arith, same.same_length);
       };
       size_is = size_is;
@@ -261,22 +261,22 @@ pub record Adds (before after : List ℕ) (next n place : ℕ) (object : HeapObj
   pub adds : (scopes : ℕ) → AddsObject Null (bump_view before next n scopes) (bump_view after (place + size) (n + 1) scopes) place object size
 
 pub adds_object : (before after : List ℕ) (next n place : ℕ) (object : HeapObject) (size : ℕ) → IsBumped before next n → place ≡ round_up next alignment
-    → size < spare_bits → place + size ≤ length before → PlacesObject before after place object size → Adds before after next n place object size
+    → size < spare_bits → place + size ≤ length before → AppendsObject before after place object size → Adds before after next n place object size
 adds_object before after next n place object size s place_is small fits w =
     let begun : 0 < next = s.begun in
     let from_allocated : next ≡ next - 1 + 1 = omega arith in
-    let es : List (ℕ × HeapObject) = entries n before first_place in
+    let es : List (ℕ × HeapObject) = entries n before bump_first_place in
     let old : map.FinMap nat_cmp HeapObject = map.from_entries es in
-    let follow : Follow n before first_place place = subst (Follow n before first_place) (sym place_is) s.follow in
-    let same = follow_in_same n before after first_place place w.below follow in
-    let pushed = follow_push n after first_place place same.0 w.lies in
+    let follow : Follow n before bump_first_place place = subst (Follow n before bump_first_place) (sym place_is) s.follow in
+    let same = follow_in_same n before after bump_first_place place w.below follow in
+    let pushed = follow_push n after bump_first_place place same.0 w.lies in
     let end_is : place_after after place ≡ round_up (place + size) alignment = ap (λ k. round_up (place + k) alignment) w.size_is in
-    let missing : map.find nat_cmp place es ≡ None = find_behind n before first_place place place follow (omega arith) in
-    let entries_are : entries (n + 1) after first_place ≡ es ++ (place, object) ∷ [] =
-    ap (λ k. entries k after first_place) (add-one n) ∙ pushed.1
-    ∙ ap (λ fs. fs ++ (place, object_at after place) ∷ []) same.1
+    let missing : map.find nat_cmp place es ≡ None = find_behind n before bump_first_place place place follow (omega arith) in
+    let entries_are : entries (n + 1) after bump_first_place ≡ es ++ (place, object) ∷ [] =
+    ap (λ k. entries k after bump_first_place) (add-one n) ∙ pushed.1
+    ∙ ap (λ fs. fs ++ (place, bump_object_at after place) ∷ []) same.1
     ∙ ap (λ (x : HeapObject). es ++ (place, x) ∷ []) w.object_is in
-    let content_is : map.from_entries {R = nat_cmp} (entries (n + 1) after first_place) ≡ map.insert old place object =
+    let content_is : map.from_entries {R = nat_cmp} (entries (n + 1) after bump_first_place) ≡ map.insert old place object =
     ap map.from_entries entries_are ∙ map.from_entries_push nat_cmp_total map.nat_cmp-IsAntisymmetric es place object missing in
     let held : held_size Null object ≡ size = ap (held_size Null) (sym w.object_is) ∙ held_is after place w.lies ∙ w.size_is in
     record {
@@ -285,10 +285,10 @@ adds_object before after next n place object size s place_is small fits w =
         within = omega (arith, w.below.same_length);
         pages = subst (λ k. k % page ≡ 0) (sym w.below.same_length) s.pages;
         bound = subst (λ k. k ≤ page * max_pages) (sym w.below.same_length) s.bound;
-        follow = subst (Follow (n + 1) after first_place) end_is (subst (λ k. Follow k after first_place (place_after after place)) (sym (add-one n)) pushed.0);
+        follow = subst (Follow (n + 1) after bump_first_place) end_is (subst (λ k. Follow k after bump_first_place (place_after after place)) (sym (add-one n)) pushed.0);
         ends = λ r x found.
             let in_new : map.get (map.insert old place object) r ≡ Some x =
-            ap (λ (m : map.FinMap nat_cmp HeapObject). map.get m r) (sym content_is) ∙ map.get-from_entries nat_cmp_total (entries (n + 1) after first_place) r ∙ found in
+            ap (λ (m : map.FinMap nat_cmp HeapObject). map.get m r) (sym content_is) ∙ map.get-from_entries nat_cmp_total (entries (n + 1) after bump_first_place) r ∙ found in
             ends_added es next place size object s.ends held (omega arith) r x in_new;
       };
       adds = λ scopes. record {
@@ -327,12 +327,12 @@ part_grown bytes more p n fits =
 word_grown : (bytes more : List ℕ) (p : ℕ) → p + 4 ≤ length bytes → u32_at (bytes ++ more) p ≡ u32_at bytes p
 word_grown bytes more p fits = ap (from_le_bytes w32) (part_grown bytes more p 4 fits)
 
-size_grown : (bytes more : List ℕ) (p : ℕ) → p + 8 ≤ length bytes → size_at (bytes ++ more) p ≡ size_at bytes p
-unfolding size_at
+size_grown : (bytes more : List ℕ) (p : ℕ) → p + 8 ≤ length bytes → bump_size_at (bytes ++ more) p ≡ bump_size_at bytes p
+unfolding bump_size_at
 size_grown bytes more p fits = ap (λ w. w % spare_bits) (word_grown bytes more p (omega arith))
 
-object_grown : (bytes more : List ℕ) (p : ℕ) → LiesAt bytes p → object_at (bytes ++ more) p ≡ object_at bytes p
-unfolding object_at
+object_grown : (bytes more : List ℕ) (p : ℕ) → BumpLiesAt bytes p → bump_object_at (bytes ++ more) p ≡ bump_object_at bytes p
+unfolding bump_object_at
 object_grown bytes more p lies =
     let fits : p + 8 ≤ length bytes = omega (arith, lies.inside, least lies) in
     same_object _ _
@@ -340,19 +340,19 @@ object_grown bytes more p lies =
     (word_grown bytes more (p + 4) (omega arith))
     refl
     (ap (λ k. take (k - 8) (drop (p + 8) (bytes ++ more))) (size_grown bytes more p fits)
-    ∙ part_grown bytes more (p + 8) (size_at bytes p - 8) (omega (arith, lies.inside, least lies)))
+    ∙ part_grown bytes more (p + 8) (bump_size_at bytes p - 8) (omega (arith, lies.inside, least lies)))
 
-lies_grown : (bytes more : List ℕ) (p : ℕ) → LiesAt bytes p → LiesAt (bytes ++ more) p
+lies_grown : (bytes more : List ℕ) (p : ℕ) → BumpLiesAt bytes p → BumpLiesAt (bytes ++ more) p
 lies_grown bytes more p lies =
     let fits : p + 8 ≤ length bytes = omega (arith, lies.inside, least lies) in
-    let object : object_at bytes p ≡ object_at (bytes ++ more) p = sym (object_grown bytes more p lies) in
-    let size : size_at (bytes ++ more) p ≡ size_at bytes p = size_grown bytes more p fits in
+    let object : bump_object_at bytes p ≡ bump_object_at (bytes ++ more) p = sym (object_grown bytes more p lies) in
+    let size : bump_size_at (bytes ++ more) p ≡ bump_size_at bytes p = size_grown bytes more p fits in
     record {
       kind = ap kind_part (word_grown bytes more p (omega arith)) ∙ lies.kind ∙ ap (λ (o : HeapObject). kind_bits o.kind) object;
       is_kind = subst (λ (o : HeapObject). IsObjectKind o.kind) object lies.is_kind;
-      first = subst (λ (o : HeapObject). first_offset Null o.kind ≤ size_at (bytes ++ more) p) object
-          (subst (λ n. first_offset Null (object_at bytes p).kind ≤ n) (sym size) lies.first);
-      host = subst (λ (o : HeapObject). o.kind ≡ ExternRef → IsHost o) object lies.host;
+      first = subst (λ (o : HeapObject). first_offset Null o.kind ≤ bump_size_at (bytes ++ more) p) object
+          (subst (λ n. first_offset Null (bump_object_at bytes p).kind ≤ n) (sym size) lies.first);
+      host = subst (λ (o : HeapObject). o.kind ≡ ExternRef → HasBumpHost o) object lies.host;
       inside = omega (arith, lies.inside, length-append bytes more);
     }
 
@@ -360,11 +360,11 @@ lies_grown bytes more p lies =
 follow_grown : (n : ℕ) (bytes more : List ℕ) (p e : ℕ) → Follow n bytes p e → Follow n (bytes ++ more) p e × (entries n (bytes ++ more) p ≡ entries n bytes p)
 follow_grown zero bytes more p e h = (h, refl)
 follow_grown (suc n) bytes more p e h =
-    let lies : LiesAt bytes p = h.0 in
+    let lies : BumpLiesAt bytes p = h.0 in
     let fits : p + 8 ≤ length bytes = omega (arith, lies.inside, least lies) in
     let after : place_after (bytes ++ more) p ≡ place_after bytes p = ap (λ k. round_up (p + k) alignment) (size_grown bytes more p fits) in
     let rest = follow_grown n bytes more (place_after bytes p) e h.1 in
-    let object : object_at (bytes ++ more) p ≡ object_at bytes p = object_grown bytes more p lies in
+    let object : bump_object_at (bytes ++ more) p ≡ bump_object_at bytes p = object_grown bytes more p lies in
     let tail : entries n (bytes ++ more) (place_after (bytes ++ more) p) ≡ entries n bytes (place_after bytes p) = ap (entries n (bytes ++ more)) after ∙ rest.1 in
     ((lies_grown bytes more p lies, subst (λ q. Follow n (bytes ++ more) q e) (sym after) rest.0), λ i. (p, object i) ∷ tail i)
 
@@ -376,7 +376,7 @@ pub record Grows (bytes more : List ℕ) (next n : ℕ) : Type 0 where
 pub grows : (bytes more : List ℕ) (next n : ℕ) → IsBumped bytes next n → length (bytes ++ more) % page ≡ 0 → length (bytes ++ more) ≤ page * max_pages → Grows bytes more next n
 grows bytes more next n s whole bound =
     let e : ℕ = round_up next alignment in
-    let grown = follow_grown n bytes more first_place e s.follow in
+    let grown = follow_grown n bytes more bump_first_place e s.follow in
     record {
       bumped = record {
         begun = s.begun;
@@ -390,13 +390,13 @@ grows bytes more next n s whole bound =
     }
 
 -- the data of a new object whose first word is told
-pub told_data : (bytes after : List ℕ) (place size word : ℕ) (told : Option ℕ) → told ≡ Some word → word_end told ≤ size → place + size ≤ length bytes
+pub told_data : (bytes after : List ℕ) (place size word : ℕ) (told : Option ℕ) → told ≡ Some word → bump_word_end told ≤ size → place + size ≤ length bytes
     → after ≡ put_bytes (put_u32 bytes (place + 8) word) (place + 8 + 4) (replicate (size - 12) 0)
     → take (length (data_with told size)) (drop (place + 8) after) ≡ data_with told size
 told_data bytes after place size word told is ends fits after_is =
     let zeros : List ℕ = replicate (size - 12) 0 in
     let zeros_len : length zeros ≡ size - 12 = length-replicate {A = ℕ} (size - 12) 0 in
-    let ends_at : 12 ≤ size = subst (λ (o : Option ℕ). word_end o ≤ size) is ends in
+    let ends_at : 12 ≤ size = subst (λ (o : Option ℕ). bump_word_end o ≤ size) is ends in
     let len : length (to_le_bytes w32 word ++ zeros) ≡ 4 + length zeros = length-append (to_le_bytes w32 word) zeros in
     subst (λ (o : Option ℕ). take (length (data_with o size)) (drop (place + 8) after) ≡ data_with o size) (sym is)
     (ap (λ k. take k (drop (place + 8) after)) len

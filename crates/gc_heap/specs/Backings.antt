@@ -10,16 +10,16 @@ IsAttached (backing.Attached s) = Unit {0}
 IsAttached (backing.Taken m) = ⊥
 
 -- these are the bytes of the memory that was attached
-abbrev pub Gives : {S M : Type 0} → (S → List ℕ) → Backing S M → List ℕ → Type 0
-Gives memory backing.Detached bytes = ⊥
-Gives memory (backing.Attached s) bytes = bytes ≡ memory s
-Gives memory (backing.Taken m) bytes = ⊥
+abbrev pub GivesAway : {S M : Type 0} → (S → List ℕ) → Backing S M → List ℕ → Type 0
+GivesAway memory backing.Detached bytes = ⊥
+GivesAway memory (backing.Attached s) bytes = bytes ≡ memory s
+GivesAway memory (backing.Taken m) bytes = ⊥
 
 -- the memory that was attached was handed out, and its marks stay
-abbrev pub Takes : {S M : Type 0} → (S → List ℕ) → (S → M) → Backing S M → Backing S M → List ℕ → Type 0
-Takes memory marks backing.Detached after bytes = ⊥
-Takes memory marks (backing.Attached s) after bytes = (bytes ≡ memory s) × (after ≡ backing.Taken (marks s))
-Takes memory marks (backing.Taken m) after bytes = ⊥
+abbrev pub TakesOut : {S M : Type 0} → (S → List ℕ) → (S → M) → Backing S M → Backing S M → List ℕ → Type 0
+TakesOut memory marks backing.Detached after bytes = ⊥
+TakesOut memory marks (backing.Attached s) after bytes = (bytes ≡ memory s) × (after ≡ backing.Taken (marks s))
+TakesOut memory marks (backing.Taken m) after bytes = ⊥
 
 -- how many objects lie in the memory; none where it isn't attached
 abbrev pub objects_in : {S M : Type 0} → (S → ℕ) → Backing S M → ℕ

@@ -13,8 +13,8 @@ use Rattle.gc_heap.specs.Objects.{held_size}
 use Rattle.gc_heap.specs.Rules.{struct_spare}
 use Rattle.gc_heap.specs.Heap.{IsNewPlace, LacksRoom, IsTooLarge, counts_with}
 use Rattle.gc_heap.specs.Access.{data_part}
-use Rattle.gc_heap.specs.declared.heap.HeapFault.{HeapFault}
-use Rattle.gc_heap.specs.declared.heap.HeapFault.TheVariants as fault
+use Rattle.gc_heap.specs.declared.fault.HeapFault.{HeapFault}
+use Rattle.gc_heap.specs.declared.fault.HeapFault.TheVariants as fault
 
 -- a declared struct without references, with room for a 32-bit number at that offset
 pub record IsNumberStruct (layouts : Layouts) (types : List Declaration) (ty : ℕ) (layout : GcStructLayout) (offset : ℕ) : Type 0 where

@@ -7,7 +7,7 @@ use Rattle.gc_view.specs.Heaps.{HeapObject, HeapView, detached_in}
 use Rattle.gc_view.specs.Sizes.{alignment}
 use Rattle.gc_view.specs.Pages.{max_pages, page}
 use Rattle.gc_heap.specs.Extents.{IsObjectKind, data_offset, first_offset, held_size}
-pub use Rattle.gc_heap.specs.Space.{IsHeld, LiesInHalf, TellsCounts, TracesInside, block_size, half_of, half_start, total}
+pub use Rattle.gc_heap.specs.Space.{IsHeld, LiesInHalf, TellsCounts, TracesInside, block_size, half_of, active_half_start, total}
 pub use Rattle.gc_heap.specs.Rules.{AllocatedIs, IsSpare, KindIs}
 
 -- An object lies at a place of the memory, whole. Objects begin at multiples of 16, and never at 0,

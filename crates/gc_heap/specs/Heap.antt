@@ -16,9 +16,9 @@ use Rattle.gc_view.specs.Bytes.{put_bytes}
 pub use Rattle.gc_view.specs.Sizes.{IsTooLarge}
 use Rattle.gc_heap.specs.Extents.{HasFields, first_offset, held_size, writable_offset}
 use Rattle.gc_heap.specs.Rules.{SpareFits, array_spare, struct_spare}
-use Rattle.gc_heap.specs.declared.heap.HeapFault.{HeapFault}
+use Rattle.gc_heap.specs.declared.fault.HeapFault.{HeapFault}
 use Rattle.gc_heap.specs.Objects.{zeroed, zeroed_array}
-use Rattle.gc_heap.specs.declared.heap.HeapFault.TheVariants as fault
+use Rattle.gc_heap.specs.declared.fault.HeapFault.TheVariants as fault
 pub use Rattle.gc_heap.specs.Space.{EndsAt, IsFree}
 pub use Rattle.gc_heap.specs.Rules.{HasRoom, IsPlaceFor, allocated_after, allocated_at_first, allocated_in_more, counts_with, given_back, with_spare_of}
 
@@ -123,8 +123,8 @@ pub record CanAllocate (layouts : Layouts) (header : Header) (size : ℕ) : Type
 abbrev pub IsStructOrExn : VMGcKind → Type 0
 IsStructOrExn kind = (kind ≡ StructRef) ⊎ (kind ≡ ExnRef)
 
-abbrev pub IsArray : VMGcKind → Type 0
-IsArray kind = kind ≡ ArrayRef
+abbrev pub IsArrayKind : VMGcKind → Type 0
+IsArrayKind kind = kind ≡ ArrayRef
 
 -- A held object of such a kind may be given back: where it is counted, its maker's word alone names it.
 pub record CanGiveBack (h : HeapView) (place : ℕ) (is_kind : VMGcKind → Type 0) : Type 0 where

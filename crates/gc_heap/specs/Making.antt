@@ -28,10 +28,10 @@ word_end layouts (first.Length count) = array_length_offset layouts + 4
 word_end layouts (first.Host id) = host_id_offset layouts + 4
 
 -- the bytes with that word in the object at a place
-abbrev pub with_word : Layouts → List ℕ → ℕ → FirstWord → List ℕ
-with_word layouts bytes place first.Zero = bytes
-with_word layouts bytes place (first.Length count) = put_u32 bytes (place + array_length_offset layouts) count
-with_word layouts bytes place (first.Host id) = put_u32 bytes (place + host_id_offset layouts) (id + 1)
+abbrev pub with_first_word : Layouts → List ℕ → ℕ → FirstWord → List ℕ
+with_first_word layouts bytes place first.Zero = bytes
+with_first_word layouts bytes place (first.Length count) = put_u32 bytes (place + array_length_offset layouts) count
+with_first_word layouts bytes place (first.Host id) = put_u32 bytes (place + host_id_offset layouts) (id + 1)
 
 -- a new object of that kind
 abbrev pub made : Layouts → VMGcKind → Header → FirstWord → ℕ → HeapObject

@@ -12,14 +12,14 @@ use Rattle.gc_view.specs.Sizes.{alignment}
 use Rattle.gc_view.specs.Heaps.{HeapObject, HeapView, detached_in}
 use Rattle.gc_heap.specs.Objects.{held_size}
 use Rattle.gc_heap.specs.Collection.{Start, CanCollect}
-use Rattle.gc_heap.specs.NullWalk.{first_place, entries, Follow}
+use Rattle.gc_heap.specs.NullWalk.{bump_first_place, entries, Follow}
 use Rattle.gc_heap.specs.declared.null.NullHeap.{NullHeap}
 
 -- what is seen of a memory with so many objects, the last of which ends at the next place
 abbrev pub bump_view : List ℕ → ℕ → ℕ → ℕ → HeapView
 bump_view bytes next objects scopes = record (detached_in scopes) {
   attached = true;
-  content = finite.from_entries (entries objects bytes first_place);
+  content = finite.from_entries (entries objects bytes bump_first_place);
   capacity = length bytes;
   allocated = next - 1;
 }
@@ -30,8 +30,8 @@ pub record IsBumped (bytes : List ℕ) (next objects : ℕ) : Type 0 where
   pub within : next ≤ length bytes + 1
   pub pages : length bytes % page ≡ 0
   pub bound : length bytes ≤ page * max_pages
-  pub follow : Follow objects bytes first_place (round_up next alignment)
-  pub ends : (place : ℕ) (o : HeapObject) → finite.find nat_cmp place (entries objects bytes first_place) ≡ Some o → place + held_size Null o ≤ next
+  pub follow : Follow objects bytes bump_first_place (round_up next alignment)
+  pub ends : (place : ℕ) (o : HeapObject) → finite.find nat_cmp place (entries objects bytes bump_first_place) ≡ Some o → place + held_size Null o ≤ next
 
 -- what is seen of a heap that may have no memory
 abbrev pub view_of : Option (List ℕ) → ℕ → ℕ → ℕ → HeapView

@@ -17,8 +17,8 @@ use Rattle.gc_view.specs.Sizes.{alignment}
 use Rattle.gc_view.specs.Heaps.{HeapObject, HeapView, Counts, no_counts}
 use Rattle.gc_heap.specs.Extents.{held_size}
 use Rattle.gc_heap.specs.References.{HoldsType, IsTraceWord, IsTraceable, bitmap_of, is_past_bitmap}
-use Rattle.gc_heap.specs.Space.{IsFree, EndsAt, IsHeld, TellsCounts, LiesInHalf, TracesInside, block_size, half_of, half_start, total}
-use Rattle.gc_heap.specs.Starts.{AreReached, CountsAnew, CountsExact, Reached, Start, Stays, objects_per_increment, present_words, reference_count}
+use Rattle.gc_heap.specs.Space.{IsFree, EndsAt, IsHeld, TellsCounts, LiesInHalf, TracesInside, block_size, half_of, active_half_start, total}
+use Rattle.gc_heap.specs.Starts.{AreReached, CountsAnew, CountsExact, ReachedPlace, Start, Stays, objects_per_increment, present_words, reference_count}
 
 -- The rules of one kind of heap.
 pub record HeapRules : Type 1 where
@@ -114,10 +114,10 @@ counting_rules = record {
   TracesArray = λ layout. Unit {0};
   Typed = λ types o. HoldsType Counting types o o.kind;
   Counted = λ types h roots. CountsExact types h roots;
-  Keeps = λ s place. Reached Counting s place;
+  Keeps = λ s place. ReachedPlace Counting s place;
   Increments = λ s n. n ≡ 3;
   StepCount = λ s n. Unit {0};
-  Leaves = λ s to h roots. Stays (Reached Counting s) to s.heap h × (CountsAnew s.types h roots × (h.needs_gc ≡ false));
+  Leaves = λ s to h roots. Stays (ReachedPlace Counting s) to s.heap h × (CountsAnew s.types h roots × (h.needs_gc ≡ false));
 }
 
 -- The copying heap: one half of the memory holds all objects, one behind the other behind 16 bytes, and a
@@ -125,7 +125,7 @@ counting_rules = record {
 abbrev pub copying_rules : HeapRules
 copying_rules = record {
   Room = λ h size. 16 + total (block_size Copying) h.content + round_up size alignment ≤ half_of h.capacity;
-  Place = λ h place size. place ≡ half_start h + h.allocated;
+  Place = λ h place size. place ≡ active_half_start h + h.allocated;
   at_first = λ bytes. if bytes == 0 then 0 else 16;
   in_more = λ h bytes. if h.capacity == 0 then (if bytes == 0 then 0 else 16) else h.allocated;
   after = λ allocated size. allocated + round_up size alignment;
@@ -144,7 +144,7 @@ copying_rules = record {
   TracesArray = λ layout. layout.elems_are_gc_refs ≡ true → (layout.base_size ≡ 16) × (layout.elem_size ≡ 4);
   Typed = λ types o. form_of o.spare ≡ 2 → HoldsType Copying types o o.kind;
   Counted = λ types h roots. Unit {0};
-  Keeps = λ s place. Reached Copying s place;
+  Keeps = λ s place. ReachedPlace Copying s place;
   Increments = λ s n. (places : List ℕ) × (AreReached Copying s places × (n ≡ length places / objects_per_increment + 3));
   StepCount = λ s n. (places : List ℕ) × (AreReached Copying s places
       × (n ≡ length places + sum (map (λ (place : ℕ). reference_count Copying s.types (finite.get s.heap.content place)) places)

@@ -42,8 +42,8 @@ abbrev pub half_of : ℕ → ℕ
 half_of capacity = capacity / 32 * 16
 
 -- where the active half of a copying heap begins
-abbrev pub half_start : HeapView → ℕ
-half_start h = if h.needs_gc then half_of h.capacity else 0
+abbrev pub active_half_start : HeapView → ℕ
+active_half_start h = if h.needs_gc then half_of h.capacity else 0
 
 -- in a counting heap each held place is counted, and only held ones are shown or queued
 pub record TellsCounts (h : HeapView) : Type 0 where
@@ -57,8 +57,8 @@ pub record TellsCounts (h : HeapView) : Type 0 where
 pub record LiesInHalf (h : HeapView) : Type 0 where
   pub counts : h.counts ≡ no_counts
   pub half : h.allocated ≤ half_of h.capacity
-  pub from : (place : ℕ) (o : HeapObject) → finite.get h.content place ≡ Some o → half_start h + 16 ≤ place
-  pub below : (place : ℕ) (o : HeapObject) → finite.get h.content place ≡ Some o → place + held_size Copying o ≤ half_start h + h.allocated
+  pub from : (place : ℕ) (o : HeapObject) → finite.get h.content place ≡ Some o → active_half_start h + 16 ≤ place
+  pub below : (place : ℕ) (o : HeapObject) → finite.get h.content place ≡ Some o → place + held_size Copying o ≤ active_half_start h + h.allocated
   pub whole : (place : ℕ) (o : HeapObject) → finite.get h.content place ≡ Some o → held_size Copying o % alignment ≡ 0
 
 -- No object lies in so many bytes from a place on, where one may begin.

@@ -42,10 +42,10 @@ pub record CountsExact (types : List Declaration) (h : HeapView) (roots : List R
   pub shown : (place : ℕ) → IsHeld h place → Contains (stack_words roots) place → IsTrue (finset.contains h.counts.shown place)
 
 -- The places that the roots reach: a root names it, or a reference of an object that is reached.
-pub data Reached (layouts : Layouts) (s : Start) : ℕ → Type 0 where
-  by_root : {place : ℕ} → IsHeld s.heap place → (r : Root) → Contains s.roots r → r.word ≡ place → Reached layouts s place
-  by_field : {place : ℕ} → IsHeld s.heap place → {from : ℕ} → Reached layouts s from → (o : HeapObject)
-      → finite.get s.heap.content from ≡ Some o → Contains (references layouts s.types o) place → Reached layouts s place
+pub data ReachedPlace (layouts : Layouts) (s : Start) : ℕ → Type 0 where
+  by_root : {place : ℕ} → IsHeld s.heap place → (r : Root) → Contains s.roots r → r.word ≡ place → ReachedPlace layouts s place
+  by_field : {place : ℕ} → IsHeld s.heap place → {from : ℕ} → ReachedPlace layouts s from → (o : HeapObject)
+      → finite.get s.heap.content from ≡ Some o → Contains (references layouts s.types o) place → ReachedPlace layouts s place
 
 -- after a collection shown are exactly the places that frame slots name, and nothing is queued
 pub record CountsAnew (types : List Declaration) (h : HeapView) (roots : List Root) : Type 0 where
@@ -60,7 +60,7 @@ Stays IsKept to old new = (place : ℕ) → IsKept place → (to place ≡ place
 -- a list of the places that are reached, each once
 pub record AreReached (layouts : Layouts) (s : Start) (places : List ℕ) : Type 0 where
   pub distinct : IsDistinct nat_eq places
-  pub reached : (place : ℕ) → Contains places place ↔ Reached layouts s place
+  pub reached : (place : ℕ) → Contains places place ↔ ReachedPlace layouts s place
 
 -- the greatest number of objects that one increment of a copying collection scans
 abbrev pub objects_per_increment : ℕ

@@ -11,21 +11,21 @@ use Rattle.gc_view.specs.Heaps.{HeapObject}
 use Rattle.gc_heap.specs.Content.{total}
 
 -- the sum of a list of entries
-abbrev sum_of : (HeapObject → ℕ) → List (ℕ × HeapObject) → ℕ
-sum_of f es = sum_by (λ (e : ℕ × HeapObject). f e.1) es
+abbrev sum_of_entries : (HeapObject → ℕ) → List (ℕ × HeapObject) → ℕ
+sum_of_entries f es = sum_by (λ (e : ℕ × HeapObject). f e.1) es
 
-total-entries : (f : HeapObject → ℕ) (m : FinMap nat_cmp HeapObject) → total f m ≡ sum_of f (entries m)
+total-entries : (f : HeapObject → ℕ) (m : FinMap nat_cmp HeapObject) → total f m ≡ sum_of_entries f (entries m)
 total-entries f m = sum-map (λ (e : ℕ × HeapObject). f e.1) (entries m)
 
 -- an entry with a new key adds its number
 sum_of-put : (f : HeapObject → ℕ) (k : ℕ) (v : HeapObject) (es : List (ℕ × HeapObject)) → find nat_cmp k es ≡ None
-    → sum_of f (put nat_cmp k v es) ≡ sum_of f es + f v
+    → sum_of_entries f (put nat_cmp k v es) ≡ sum_of_entries f es + f v
 sum_of-put f k v [] none = omega arith
 sum_of-put f k v (e ∷ es) none =
     let g : ℕ × HeapObject → ℕ = λ e. f e.1 in
     let at_e = sum_by-cons g e es in
     elim (nat_cmp k e.0) as (λ r. cond (is_eq r) (Some e.1) (find nat_cmp k es) ≡ None
-    → sum_of f (by_order r ((k, v) ∷ e ∷ es) ((e.0, v) ∷ es) (e ∷ put nat_cmp k v es)) ≡ sum_of f (e ∷ es) + f v) [
+    → sum_of_entries f (by_order r ((k, v) ∷ e ∷ es) ((e.0, v) ∷ es) (e ∷ put nat_cmp k v es)) ≡ sum_of_entries f (e ∷ es) + f v) [
       | Less ↦ λ _. sum_by-cons g (k, v) (e ∷ es) ∙ omega arith
       | Equal ↦ λ n. absurd (cc)
       | Greater ↦ λ n. let rest = sum_of-put f k v es n in sum_by-cons g e (put nat_cmp k v es) ∙ omega arith
@@ -43,6 +43,6 @@ total-empty f = ap (λ es. sum (map (λ (e : ℕ × HeapObject). f e.1) es)) (no
 pub total-insert : (f : HeapObject → ℕ) (m : FinMap nat_cmp HeapObject) (k : ℕ) (v : HeapObject) → get m k ≡ None → total f (insert m k v) ≡ total f m + f v
 total-insert f m k v none =
     total-entries f (insert m k v)
-    ∙ ap (sum_of f) (entries-insert nat_cmp_total m k v)
+    ∙ ap (sum_of_entries f) (entries-insert nat_cmp_total m k v)
     ∙ sum_of-put f k v (entries m) (sym (get-entries m k) ∙ none)
     ∙ ap (λ n. n + f v) (sym (total-entries f m))

@@ -1,7 +1,7 @@
 //! Where a heap has its memory: attached, taken out so that it can grow, or nowhere.
 
 ghost use Rattle.std.specs.Prelude.{◌≡◌};
-ghost use Rattle.gc_heap.specs.Backings.{IsAttached, Gives, Takes, objects_in};
+ghost use Rattle.gc_heap.specs.Backings.{IsAttached, GivesAway, TakesOut, objects_in};
 
 use gc_memory::HeapMemory;
 use std::mem;
@@ -54,7 +54,7 @@ impl<S: HeapSpace> Backing<S, S::Marks> {
     /// Gives the memory away.
     pub fn detach(&mut self) -> HeapMemory
         requires { IsAttached self.old }
-        ensures given { Gives S.memory self.old result }
+        ensures given { GivesAway S.memory self.old result }
         ensures detached { self.new ≡ Backing.Detached }
     {
         match mem::replace(self, Backing::Detached) {
@@ -66,7 +66,7 @@ impl<S: HeapSpace> Backing<S, S::Marks> {
     /// Hands the memory out, so that it can grow.
     pub fn take(&mut self) -> HeapMemory
         requires { IsAttached self.old }
-        ensures { Takes S.memory S.marks self.old self.new result }
+        ensures { TakesOut S.memory S.marks self.old self.new result }
     {
         match mem::replace(self, Backing::Detached) {
             Backing::Attached(space) => {

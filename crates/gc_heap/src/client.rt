@@ -9,7 +9,8 @@ ghost use Rattle.gc_heap.specs.Client.{IsNumberStruct, MakesNumber, GivesOrRefus
 use crate::access::{read_u32, write_u32};
 use crate::collect::run;
 use crate::collection::GcStoreTraceState;
-use crate::heap::{GcHeap, HeapFault};
+use crate::fault::HeapFault;
+use crate::heap::GcHeap;
 use gc_refs::VMGcRef;
 use gc_roots::{GcRootsList, RootPlace};
 use gc_types::{GcStructLayout, VMSharedTypeIndex};

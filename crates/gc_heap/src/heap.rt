@@ -1,6 +1,7 @@
 //! The interface of a heap.
 
 use crate::collection::{GcProgress, GcStoreTraceState};
+use crate::fault::HeapFault;
 use crate::layouts::array_bytes;
 use crate::new_object::{FirstWord, array_header, struct_header};
 use crate::{read, sizes};
@@ -14,28 +15,18 @@ use gc_types::{GcArrayLayout, GcStructLayout, Layouts, VMSharedTypeIndex};
 use std::alloc::Global;
 use std::ops::Range;
 use std::sync::ledger::Ledger;
-use thiserror::Error;
 
 /// The kind of a heap. It decides how the heap's objects are laid out, so it is the same as their
 /// layouts.
 pub type HeapKind = Layouts;
-
-/// Why an allocation failed that no growth can help.
-#[derive(Clone, Copy, Debug, PartialEq, Eq, Error)]
-pub enum HeapFault {
-    #[error("no heap can hold an object of that size")]
-    TooLarge,
-    #[error("out of memory")]
-    Memory,
-}
 
 /// A heap of garbage-collected objects.
 ///
 /// What contracts see of it is `seen`: its content (a finite map from places to objects), its
 /// capacity and its counts (`HeapView` of `gc_view`). Most calls want a heap that is `sound`, as it is
 /// outside a collection and while its memory is not taken; of a sound heap `IsHeap` is true, by the
-/// law `is_heap`. `is_attached` wants nothing, `replace_memory` a heap whose memory is taken, and
-/// `step` and `step_counted` a collection that is under way.
+/// law `is_heap`. `memory` and `is_attached` want nothing, `replace_memory` a heap whose memory is
+/// taken, and `step` and `step_counted` a collection that is under way.
 ///
 /// A word is an `i31` where it is odd, and else the place of an object. Reads are safe for every
 /// word, and answer `BadRef` always for an i31 and else only for a word that names no held object of
@@ -73,7 +64,7 @@ pub trait GcHeap {
     ghost use Rattle.gc_heap.specs.LentMemory.{IsMemoryOf};
     ghost use Rattle.gc_heap.specs.Making.{CanMake, made};
     ghost use Rattle.gc_heap.specs.Heap.{empty_heap, grown, Allocated, layout_kind, new_struct, new_array, array_size, given_back, IsWritable, with_data};
-    ghost use Rattle.gc_heap.specs.Heap.{put_object, with_spare_of, CanAllocate, CanGiveBack, IsStructOrExn, IsArray, IsSameHeader};
+    ghost use Rattle.gc_heap.specs.Heap.{put_object, with_spare_of, CanAllocate, CanGiveBack, IsStructOrExn, IsArrayKind, IsSameHeader};
     ghost use Rattle.gc_heap.specs.Barriers.{ShowsCount, CanName, CanUnname, CanNameSlot, CanUnnameSlot, IsNamed, cloned, dropped, exposed, overwritten};
     ghost use Rattle.gc_heap.specs.Collection.{Start, Stage, stage, IsUnderWay, has_host, IsPartOf, CanCollect, Collected, Stepped, IsStepCount};
 
@@ -162,8 +153,8 @@ pub trait GcHeap {
         ensures seen { seen self.new ≡ detached_in 0 }
         ensures size { length result ≡ (seen self.old).capacity };
 
-    /// Hands the memory out, so that it can grow. Until it is replaced only `is_attached` may be
-    /// called, which is false.
+    /// Hands the memory out, so that it can grow. Until it is replaced only `memory` and `is_attached`
+    /// may be called, which answer None and false.
     fn take_memory(&mut self) -> HeapMemory
         requires sound { sound self.old }
         requires attached { (seen self.old).attached ≡ true }
@@ -345,7 +336,7 @@ pub trait GcHeap {
     /// Gives back an array that nothing names.
     fn dealloc_uninit_array(&mut self, array: VMArrayRef)
         requires sound { sound self.old }
-        requires held { CanGiveBack (seen self.old) array IsArray }
+        requires held { CanGiveBack (seen self.old) array IsArrayKind }
         ensures sound { sound self.new }
         ensures seen { (object : HeapObject) → finite.get (seen self.old).content array ≡ Some object
             → seen self.new ≡ given_back KIND (seen self.old) array object };
@@ -449,7 +440,8 @@ pub trait GcHeap {
         ensures seen { (object : HeapObject) → finite.get (seen self.old).content r.now ≡ Some object
             → seen self.new ≡ put_object (seen self.old) r.now (with_data KIND object offset bytes.now) };
 
-    /// All bytes of the heap's memory; none where it isn't attached.
+    /// All bytes of the heap's memory; none where it isn't attached. Not final, as what the bytes are
+    /// follows from each heap's own invariant.
     fn heap_slice(&self) -> &[u8]
         requires { sound self.now }
         ensures size { length result.now ≡ (seen self.now).capacity }

@@ -6,7 +6,7 @@ ghost use Rattle.gc_refs.specs.Header.{IsOfKind, spare_bits};
 ghost use Rattle.gc_tables.specs.SideTables.{max_entries};
 ghost use Rattle.gc_heap.specs.Extents.{first_offset};
 ghost use Rattle.gc_heap.specs.Heap.{layout_kind};
-ghost use Rattle.gc_heap.specs.Making.{first_word, with_word, word_end};
+ghost use Rattle.gc_heap.specs.Making.{first_word, with_first_word, word_end};
 ghost use Rattle.gc_heap.specs.Rules.{LayoutTraces, array_spare, struct_spare};
 
 use crate::layouts::kind_of_layout;
@@ -44,7 +44,7 @@ impl FirstWord {
     /// Writes the word where the object at a place has it, as its kind of heap lays it out.
     pub fn write(&self, memory: &mut HeapMemory, layouts: Layouts, place: u32)
         requires { place + word_end layouts self.now ≤ length memory.old }
-        ensures written { memory.new ≡ with_word layouts memory.old place self.now }
+        ensures written { memory.new ≡ with_first_word layouts memory.old place self.now }
         ensures host { (id : ℕ) → self.now ≡ FirstWord.Host id → id + 1 ≤ max_entries }
     {
         let at = place as usize;

@@ -18,10 +18,11 @@ ghost use Rattle.std.specs.Prelude.{◌≡◌};
 ghost use Rattle.gc_view.specs.Heaps.{detached_in};
 ghost use Rattle.gc_heap.specs.NullStates.{null_seen, IsNullSound};
 
-mod place;
+mod allocate;
 
 use crate::collection::{GcProgress, GcStoreTraceState};
-use crate::heap::{GcHeap, HeapFault, HeapKind};
+use crate::fault::HeapFault;
+use crate::heap::{GcHeap, HeapKind};
 use crate::new_object::FirstWord;
 use gc_memory::HeapMemory;
 use gc_refs::{RefFault, VMArrayRef, VMGcHeader, VMGcRef};

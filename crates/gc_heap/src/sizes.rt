@@ -10,7 +10,7 @@ use gc_types::Layouts;
 /// The least size that the spare bits of a kind word, where a null heap keeps it, can't tell.
 pub(crate) const NULL_LIMIT: u32 = 0x0400_0000;
 
-/// The least size whose block in a counting heap, with 16 bytes before it, is no number of 32 bits.
+/// The least size that, 16 bytes added, is no number of 32 bits: a counting heap has none of it.
 const COUNTING_LIMIT: u64 = 0xFFFF_FFF0;
 
 /// The least size that a copying heap can't round up to a number of 32 bits.

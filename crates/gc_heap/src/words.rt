@@ -2,7 +2,7 @@
 
 ghost use Rattle.std.specs.Prelude.{◌≡◌};
 
-use crate::heap::HeapFault;
+use crate::fault::HeapFault;
 use gc_refs::{VMArrayRef, VMExternRef, VMGcRef};
 
 /// The same answer of an allocation, with the word of the array alone.

@@ -14,7 +14,7 @@ use Rattle.gc_model.specs.Fits.{matches, is_extern, reference_fits, object_fits_
 use Rattle.gc_model.specs.Values.{at, Object}
 use Rattle.gc_image.specs.declared.image.ObjectLine.{ObjectLine}
 use Rattle.gc_image.specs.declared.image.ObjectLine.TheVariants as object
-use Rattle.gc_image.specs.Steps.{own_fits, own_type}
+use Rattle.gc_image.specs.Steps.{type_fits, line_heap_type}
 use Rattle.gc_image.specs.Well.{as_object}
 
 -- extern matches extern alone
@@ -22,30 +22,30 @@ extern_matches : (supers : List (Option ℕ)) (ty : HeapType) → matches supers
 extern_matches supers heap.Any = refl
 extern_matches supers ty = refl
 
-any_fits : (types : List Declaration) (ty : HeapType) (line : ObjectLine) → own_fits (supertypes_of types) (own_type Any line) ty ≡ object_fits_any types ty (Some (as_object line))
+any_fits : (types : List Declaration) (ty : HeapType) (line : ObjectLine) → type_fits (supertypes_of types) (line_heap_type Any line) ty ≡ object_fits_any types ty (Some (as_object line))
 any_fits types ty (object.Struct own values) = refl
 any_fits types ty line = refl
 
-extern_fits : (types : List Declaration) (ty : HeapType) (line : ObjectLine) → own_fits (supertypes_of types) (own_type Extern line) ty ≡ object_fits_extern ty (Some (as_object line))
+extern_fits : (types : List Declaration) (ty : HeapType) (line : ObjectLine) → type_fits (supertypes_of types) (line_heap_type Extern line) ty ≡ object_fits_extern ty (Some (as_object line))
 extern_fits types ty (object.Struct own values) = extern_matches (supertypes_of types) ty
 extern_fits types ty (object.Array own values) = extern_matches (supertypes_of types) ty
 extern_fits types ty (object.Bytes own values) = extern_matches (supertypes_of types) ty
 extern_fits types ty (object.Host number) = extern_matches (supertypes_of types) ty
 extern_fits types ty (object.Exn own tag values) = refl
 
-exn_fits : (types : List Declaration) (ty : HeapType) (line : ObjectLine) → own_fits (supertypes_of types) (own_type Exn line) ty ≡ object_fits_exn types ty (Some (as_object line))
+exn_fits : (types : List Declaration) (ty : HeapType) (line : ObjectLine) → type_fits (supertypes_of types) (line_heap_type Exn line) ty ≡ object_fits_exn types ty (Some (as_object line))
 exn_fits types ty (object.Struct own values) = refl
 exn_fits types ty line = refl
 
 found_fits : (types : List Declaration) (objects : List (Object ℕ)) (ty : RefType) (class : GcClass) (number : ℕ) (line : ObjectLine) → slice_get objects number ≡ Some (as_object line)
-    → own_fits (supertypes_of types) (own_type class line) ty.heap_type ≡ reference_fits types objects ty class (at number)
+    → type_fits (supertypes_of types) (line_heap_type class line) ty.heap_type ≡ reference_fits types objects ty class (at number)
 found_fits types objects ty Any number line is = any_fits types ty.heap_type line ∙ ap (object_fits_any types ty.heap_type) (sym is)
 found_fits types objects ty Extern number line is = extern_fits types ty.heap_type line ∙ ap (object_fits_extern ty.heap_type) (sym is)
 found_fits types objects ty Exn number line is = exn_fits types ty.heap_type line ∙ ap (object_fits_exn types ty.heap_type) (sym is)
 
 -- an object of the image
 pub object_fits : (types : List Declaration) (lines : List ObjectLine) (ty : RefType) (class : GcClass) (number : ℕ) (line : ObjectLine) → slice_get lines number ≡ Some line
-    → own_fits (supertypes_of types) (own_type class line) ty.heap_type ≡ reference_fits types (map as_object lines) ty class (at number)
+    → type_fits (supertypes_of types) (line_heap_type class line) ty.heap_type ≡ reference_fits types (map as_object lines) ty class (at number)
 object_fits types lines ty class number line is =
     found_fits types (map as_object lines) ty class number line (slice_get-map as_object lines number ∙ ap (option_map as_object) is)
 

@@ -21,9 +21,9 @@ use Rattle.gc_image.specs.declared.image.ImageValue.TheVariants as value
 use Rattle.gc_image.specs.declared.image.ObjectLine.{ObjectLine}
 use Rattle.gc_image.specs.declared.image.ObjectLine.TheVariants as object
 use Rattle.gc_image.specs.Reading.{FitBytes, FitExn, FitRow, FitTagged, bytes_words, exn_words, row_words, tagged_words}
-use Rattle.gc_image.specs.Text.{FitsGlobal, FitsObject, FitsReference, FitsValue, class_text, global_words, object_words, reference_text, value_text}
+use Rattle.gc_image.specs.Text.{FitsGlobal, FitsObject, FitsImageReference, FitsImageValue, class_text, global_line_words, object_words, reference_text, value_text}
 
-word_reference : (r : ImageReference) → FitsReference r → IsWord (reference_text r)
+word_reference : (r : ImageReference) → FitsImageReference r → IsWord (reference_text r)
 word_reference reference.Null fits = word_text (codes "null") refl
 word_reference (reference.Small n) fits = word_append (codes "i31:") (decimal n) (word_text (codes "i31:") refl) (word_decimal n (omega arith))
 word_reference (reference.Object number) fits = word_append (codes "#") (decimal number) (word_text (codes "#") refl) (word_decimal number fits)
@@ -33,7 +33,7 @@ word_class class.Any = word_text (codes "any") refl
 word_class class.Extern = word_text (codes "extern") refl
 word_class class.Exn = word_text (codes "exn") refl
 
-word_value : (v : ImageValue) → FitsValue v → IsWord (value_text v)
+word_value : (v : ImageValue) → FitsImageValue v → IsWord (value_text v)
 word_value (value.I32 n) fits = word_operand (operand.I32 n) fits
 word_value (value.I64 n) fits = word_operand (operand.I64 n) fits
 word_value (value.F32 n) fits = word_operand (operand.F32 n) fits
@@ -49,31 +49,31 @@ word_small n fits = word_decimal n (omega arith)
 
 -- the words of an object are words
 pub object_fit : (x : ObjectLine) → FitsObject x → AreWords (object_words x)
-object_fit (object.Struct ty values) fits = (word_text (codes "s") refl, (word_type ty fits.0, words_map FitsValue value_text word_value values fits.1))
-object_fit (object.Array ty values) fits = (word_text (codes "a") refl, (word_type ty fits.0, words_map FitsValue value_text word_value values fits.1))
+object_fit (object.Struct ty values) fits = (word_text (codes "s") refl, (word_type ty fits.0, words_map FitsImageValue value_text word_value values fits.1))
+object_fit (object.Array ty values) fits = (word_text (codes "a") refl, (word_type ty fits.0, words_map FitsImageValue value_text word_value values fits.1))
 object_fit (object.Bytes ty bytes) fits = (word_text (codes "b") refl, (word_type ty fits.0, (word_bytes bytes fits.1, tt)))
 object_fit (object.Host number) fits = (word_text (codes "h") refl, (word_decimal number fits, tt))
 object_fit (object.Exn ty tag values) fits =
-    (word_text (codes "e") refl, (word_type ty fits.0, (word_small tag.instance fits.1, (word_small tag.index fits.2, words_map FitsValue value_text word_value values fits.3))))
+    (word_text (codes "e") refl, (word_type ty fits.0, (word_small tag.instance fits.1, (word_small tag.index fits.2, words_map FitsImageValue value_text word_value values fits.3))))
 
 pub object_some : (x : ObjectLine) → 0 < length (object_words x)
 object_some (object.Struct ty values) = omega arith
 object_some x = omega arith
 
-pub global_fit : (x : GlobalLine) → FitsGlobal x → AreWords (global_words x)
+pub global_fit : (x : GlobalLine) → FitsGlobal x → AreWords (global_line_words x)
 global_fit x fits = (word_text (codes "global") refl, (word_decimal x.index (let small = fits.0 in omega arith), (word_value x.value fits.1, tt)))
 
-pub global_some : (x : GlobalLine) → 0 < length (global_words x)
+pub global_some : (x : GlobalLine) → 0 < length (global_line_words x)
 global_some x = omega arith
 
-one_reference : (r s : ImageReference) → FitsReference r → FitsReference s → reference_text r ≡ reference_text s → r ≡ s
+one_reference : (r s : ImageReference) → FitsImageReference r → FitsImageReference s → reference_text r ≡ reference_text s → r ≡ s
 one_reference reference.Null reference.Null r_fits s_fits e = refl
 one_reference (reference.Small m) (reference.Small n) m_small n_small e =
     ap reference.Small (decimal_injective m n (omega arith) (omega arith) (append_cancel_left (codes "i31:") (decimal m) (decimal n) e))
 one_reference (reference.Object m) (reference.Object n) m_small n_small e = ap reference.Object (decimal_injective m n m_small n_small (append_cancel_left (codes "#") (decimal m) (decimal n) e))
 one_reference r s r_fits s_fits e = differ _ _ (λ a b c d. omega arith) e
 
-one_ref : (c d : GcClass) (r s : ImageReference) → FitsReference r → FitsReference s → class_text c ++ 58 ∷ reference_text r ≡ class_text d ++ 58 ∷ reference_text s → value.Ref c r ≡ value.Ref d s
+one_ref : (c d : GcClass) (r s : ImageReference) → FitsImageReference r → FitsImageReference s → class_text c ++ 58 ∷ reference_text r ≡ class_text d ++ 58 ∷ reference_text s → value.Ref c r ≡ value.Ref d s
 one_ref class.Any class.Any r s r_fits s_fits e = ap (value.Ref class.Any) (one_reference r s r_fits s_fits (append_cancel_left (codes "any:") (reference_text r) (reference_text s) e))
 one_ref class.Extern class.Extern r s r_fits s_fits e = ap (value.Ref class.Extern) (one_reference r s r_fits s_fits (append_cancel_left (codes "extern:") (reference_text r) (reference_text s) e))
 one_ref class.Exn class.Exn r s r_fits s_fits e = ap (value.Ref class.Exn) (one_reference r s r_fits s_fits (append_cancel_left (codes "exn:") (reference_text r) (reference_text s) e))
@@ -85,7 +85,7 @@ class_apart class.Any r text any extern e = absurd (any (sym (ap (λ t. get_or t
 class_apart class.Extern r text any extern e = absurd (extern (sym (ap (λ t. get_or t 0 0) e)))
 class_apart class.Exn r text any extern e = absurd (extern (sym (ap (λ t. get_or t 0 0) e)))
 
-one_value : (x y : ImageValue) → FitsValue x → FitsValue y → value_text x ≡ value_text y → x ≡ y
+one_value : (x y : ImageValue) → FitsImageValue x → FitsImageValue y → value_text x ≡ value_text y → x ≡ y
 one_value (value.I32 m) (value.I32 n) m_fits n_fits e =
     ap value.I32 (signed_decimal_injective m n (let small = m_fits.sfits in omega arith) (let small = n_fits.sfits in omega arith) (append_cancel_left (codes "i32:") (signed_decimal m) (signed_decimal n) e))
 one_value (value.I64 m) (value.I64 n) m_fits n_fits e =
@@ -122,8 +122,8 @@ type_index m n m_small n_small e = decimal_injective m n (omega arith) (omega ar
 small : (m n : ℕ) → m < 2 ^ 32 → n < 2 ^ 32 → decimal m ≡ decimal n → m ≡ n
 small m n m_small n_small e = decimal_injective m n (omega arith) (omega arith) e
 
-values_same : (xs ys : List ImageValue) → AllByRecursion FitsValue xs → AllByRecursion FitsValue ys → map value_text xs ≡ map value_text ys → xs ≡ ys
-values_same xs ys xs_fit ys_fit e = one_list FitsValue value_text one_value xs ys xs_fit ys_fit e
+values_same : (xs ys : List ImageValue) → AllByRecursion FitsImageValue xs → AllByRecursion FitsImageValue ys → map value_text xs ≡ map value_text ys → xs ≡ ys
+values_same xs ys xs_fit ys_fit e = one_list FitsImageValue value_text one_value xs ys xs_fit ys_fit e
 
 -- no two objects have the same words
 pub one_object : (x y : ObjectLine) → FitsObject x → FitsObject y → object_words x ≡ object_words y → x ≡ y
@@ -148,7 +148,7 @@ one_object (object.Exn t tag xs) (object.Exn u other ys) x_fits y_fits e =
     λ i. object.Exn (types i) (record { instance = instances i; index = indexes i }) (values i)
 one_object x y x_fits y_fits e = apart _ _ (λ a. omega arith) e
 
-pub one_global : (x y : GlobalLine) → FitsGlobal x → FitsGlobal y → global_words x ≡ global_words y → x ≡ y
+pub one_global : (x y : GlobalLine) → FitsGlobal x → FitsGlobal y → global_line_words x ≡ global_line_words y → x ≡ y
 one_global x y x_fits y_fits e =
     let indexes = decimal_injective x.index y.index (let low = x_fits.0 in omega arith) (let low = y_fits.0 in omega arith) (at 1 _ _ e) in
     let values = one_value x.value y.value x_fits.1 y_fits.1 (at 2 _ _ e) in

@@ -11,8 +11,8 @@ use Rattle.gc_model.proofs.Changes.{slice_get-set_same, slice_get-set_other}
 use Rattle.gc_model.proofs.Lists.{slice_get-push_cases, slice_get-push_new, slice_get-push_old}
 use Rattle.gc_image.specs.declared.image.GlobalLine.{GlobalLine}
 use Rattle.gc_image.specs.declared.image.ObjectLine.{ObjectLine}
-use Rattle.gc_image.specs.Steps.{Finds, FoundParts, IsFound, none_found}
-use Rattle.gc_image.specs.Well.{AreReached, IsHeld, Names}
+use Rattle.gc_image.specs.Steps.{Finds, FoundParts, MarksFound, none_found}
+use Rattle.gc_image.specs.Well.{GlobalsReachAll, GlobalHolds, NamesByNumber}
 
 -- nothing is sought
 pub finds_none : (Sought : ℕ → Type 0) (found : FoundParts) → ((p : ℕ) → Sought p → p < length found.marked → slice_get found.marked p ≡ Some true) → Finds Sought found found
@@ -78,19 +78,19 @@ no_mark (suc n) (suc p) e = no_mark n p e
 no_count : (n : ℕ) → count_by (λ b. b) (replicate n false) ≡ 0
 no_count n = let all : count_by (λ b. b) (replicate n false) ≡ n * 0 = sum_by-replicate (λ (b : Bool). cond {A = ℕ} b 1 0) n false in omega arith
 
-pub found_at_first : (n : ℕ) → IsFound (none_found n)
+pub found_at_first : (n : ℕ) → MarksFound (none_found n)
 found_at_first n = record { listed = λ p e. absurd (no_mark n p e); marks = λ k p e. absurd (none-some p e); counted = no_count n }
 
 -- a walk along the list of what was found
 pub record Walks (objects : List ObjectLine) (globals : List GlobalLine) (found : FoundParts) (next : ℕ) : Type 0 where
   pub long : length found.marked ≡ length objects
-  pub is : IsFound found
-  pub starts : (p : ℕ) → IsHeld globals p → p < length objects → slice_get found.marked p ≡ Some true
-  pub sound : (k p : ℕ) → slice_get found.numbers k ≡ Some p → Reachable (IsHeld globals) (Names objects) p
-  pub closed : (k p q : ℕ) → k < next → slice_get found.numbers k ≡ Some p → Names objects p q → q < length objects → slice_get found.marked q ≡ Some true
+  pub is : MarksFound found
+  pub starts : (p : ℕ) → GlobalHolds globals p → p < length objects → slice_get found.marked p ≡ Some true
+  pub sound : (k p : ℕ) → slice_get found.numbers k ≡ Some p → Reachable (GlobalHolds globals) (NamesByNumber objects) p
+  pub closed : (k p q : ℕ) → k < next → slice_get found.numbers k ≡ Some p → NamesByNumber objects p q → q < length objects → slice_get found.marked q ≡ Some true
 
 module _ (objects : List ObjectLine) (globals : List GlobalLine) where
-  pub walk_start : (found : FoundParts) → Finds (IsHeld globals) (none_found (length objects)) found → length (none_found (length objects)).marked ≡ length objects → Walks objects globals found 0
+  pub walk_start : (found : FoundParts) → Finds (GlobalHolds globals) (none_found (length objects)) found → length (none_found (length objects)).marked ≡ length objects → Walks objects globals found 0
   walk_start found finds long = record {
     long = finds.long ∙ long;
     is = finds.found (found_at_first (length objects));
@@ -99,7 +99,7 @@ module _ (objects : List ObjectLine) (globals : List GlobalLine) where
     closed = λ k p q below. absurd (omega arith);
   }
 
-  pub walk_more : (old new : FoundParts) (next number : ℕ) → slice_get old.numbers next ≡ Some number → Finds (Names objects number) old new → Walks objects globals old next
+  pub walk_more : (old new : FoundParts) (next number : ℕ) → slice_get old.numbers next ≡ Some number → Finds (NamesByNumber objects number) old new → Walks objects globals old next
       → Walks objects globals new (next + 1)
   walk_more old new next number at finds walks = record {
     long = finds.long ∙ walks.long;
@@ -121,7 +121,7 @@ module _ (objects : List ObjectLine) (globals : List GlobalLine) where
         let kept = finds.keeps next number at in
         let both : Some number ≡ Some p = sym kept ∙ sym (ap (slice_get new.numbers) same) ∙ e in
         let one : number ≡ p = cc in
-        finds.finds q (subst (λ r. Names objects r q) (sym one) names) (let long = walks.long in omega arith))
+        finds.finds q (subst (λ r. NamesByNumber objects r q) (sym one) names) (let long = walks.long in omega arith))
         (cases_lt k next);
   }
 
@@ -129,7 +129,7 @@ module _ (objects : List ObjectLine) (globals : List GlobalLine) where
   pub walk_within : (found : FoundParts) (next : ℕ) → Walks objects globals found next → next < length found.numbers → next < length objects
   walk_within found next walks more = let few = count_by-le-length (λ b. b) found.marked in let counted = walks.is.counted in let long = walks.long in omega arith
 
-  marked_all : (found : FoundParts) (next : ℕ) → length found.numbers ≤ next → Walks objects globals found next → {p : ℕ} → Reachable (IsHeld globals) (Names objects) p → p < length objects
+  marked_all : (found : FoundParts) (next : ℕ) → length found.numbers ≤ next → Walks objects globals found next → {p : ℕ} → Reachable (GlobalHolds globals) (NamesByNumber objects) p → p < length objects
       → slice_get found.marked p ≡ Some true
   marked_all found next over walks (by_start held) below = walks.starts _ held below
   marked_all found next over walks (by_step {x = x} {y = y} reached names) below =
@@ -138,7 +138,7 @@ module _ (objects : List ObjectLine) (globals : List GlobalLine) where
       walks.closed at.0 y x (let within = slice_get_within found.numbers at.0 y at.1 in omega arith) at.1 names below
 
   pub walk_end : (found : FoundParts) (next : ℕ) (b : Bool) → length found.numbers ≤ next → Walks objects globals found next → (IsTrue b ↔ ((p : ℕ) → p < length found.marked → slice_get found.marked p ≡ Some true))
-      → IsTrue b ↔ AreReached objects globals
+      → IsTrue b ↔ GlobalsReachAll objects globals
   walk_end found next b over walks told = (
     λ e p below. let at = walks.is.listed p (told.0 e p (let long = walks.long in omega arith)) in walks.sound at.0 p at.1,
     λ reached. told.1 (λ p below. let inside : p < length objects = let long = walks.long in omega arith in marked_all found next over walks (reached p inside) inside),

@@ -17,7 +17,7 @@ use Rattle.gc_image.specs.declared.image.GlobalLine.{GlobalLine}
 use Rattle.gc_image.specs.declared.image.ObjectLine.{ObjectLine}
 use Rattle.gc_image.specs.Parts.{ImageParts}
 use Rattle.gc_image.specs.Reading.{ReadsObjects, ReadsTypes, ended_globals, ended_lines}
-use Rattle.gc_image.specs.Text.{FitsGlobal, FitsImage, FitsObject, FitsType, count_text, global_text, global_words, object_text, object_words}
+use Rattle.gc_image.specs.Text.{FitsGlobal, FitsImage, FitsObject, FitsImageType, count_text, global_text, global_line_words, object_text, object_words}
 use Rattle.gc_commands.proofs.LineLemmas.{ascii_joined}
 use Rattle.gc_image.proofs.LineLemmas.{one_line}
 use Rattle.gc_image.proofs.ObjectLemmas.{global_fit, global_some, object_fit, object_some, one_global, one_object}
@@ -48,14 +48,14 @@ type_letter (command.Exn params) declares e = let is = joined_letter 101 (codes 
 type_letter c declares e = absurd declares
 
 -- so the types end where the count stands
-pub count_stops : (n : ℕ) (rest : List (List ℕ)) (type : Command) (others : List (List ℕ)) → FitsType type → count_text n ∷ rest ≡ spelling type ∷ others → ⊥
+pub count_stops : (n : ℕ) (rest : List (List ℕ)) (type : Command) (others : List (List ℕ)) → FitsImageType type → count_text n ∷ rest ≡ spelling type ∷ others → ⊥
 count_stops n rest type others fits e = type_letter type fits.0 (sym (ap (λ (ls : List (List ℕ)). get_or (get_or ls 0 []) 0 0) e))
 
 -- no type begins these lines
 abbrev pub NoType : List (List ℕ) → Type 0
-NoType lines = (type : Command) (others : List (List ℕ)) → FitsType type → ¬ (lines ≡ spelling type ∷ others)
+NoType lines = (type : Command) (others : List (List ℕ)) → FitsImageType type → ¬ (lines ≡ spelling type ∷ others)
 
-pub types_same : (types others : List Command) (new rest : List (List ℕ)) → AllByRecursion FitsType types → AllByRecursion FitsType others → NoType new → NoType rest
+pub types_same : (types others : List Command) (new rest : List (List ℕ)) → AllByRecursion FitsImageType types → AllByRecursion FitsImageType others → NoType new → NoType rest
     → map spelling types ++ new ≡ map spelling others ++ rest → (types ≡ others) × (new ≡ rest)
 types_same [] [] new rest fit other_fit stops ends e = (refl, e)
 types_same [] (y ∷ others) new rest fit other_fit stops ends e = absurd (stops y (map spelling others ++ rest) other_fit.0 e)
@@ -70,7 +70,7 @@ one_object_line : (x y : ObjectLine) → FitsObject x → FitsObject y → objec
 one_object_line x y x_fits y_fits e = one_line FitsObject object_words object_fit object_some one_object x y x_fits y_fits e
 
 one_global_line : (x y : GlobalLine) → FitsGlobal x → FitsGlobal y → global_text x ≡ global_text y → x ≡ y
-one_global_line x y x_fits y_fits e = one_line FitsGlobal global_words global_fit global_some one_global x y x_fits y_fits e
+one_global_line x y x_fits y_fits e = one_line FitsGlobal global_line_words global_fit global_some one_global x y x_fits y_fits e
 
 pub objects_same : (xs ys : List ObjectLine) (new rest : List (List ℕ)) → AllByRecursion FitsObject xs → AllByRecursion FitsObject ys → length xs ≡ length ys
     → map object_text xs ++ new ≡ map object_text ys ++ rest → (xs ≡ ys) × (new ≡ rest)

@@ -7,7 +7,7 @@ use Rattle.gc_image.specs.declared.image.GlobalLine.{GlobalLine}
 use Rattle.gc_image.specs.declared.image.ImageValue.{ImageValue}
 use Rattle.gc_image.specs.declared.image.ObjectLine.{ObjectLine}
 use Rattle.gc_image.specs.Steps.{Finds, FoundParts}
-use Rattle.gc_image.specs.Well.{IsHeld, Names, line_values, number_named}
+use Rattle.gc_image.specs.Well.{GlobalHolds, NamesByNumber, line_values, number_named}
 use Rattle.gc_image.proofs.ElementLemmas.{at_here}
 use Rattle.gc_image.proofs.ReachLemmas.{finds_both, finds_none}
 
@@ -62,17 +62,17 @@ module _ {A : Type 0} (named : A → Option ℕ) (xs : List A) where
 abbrev pub global_named : GlobalLine → Option ℕ
 global_named global = number_named global.value
 
-pub held_all : (globals : List GlobalLine) (n : ℕ) (old new : FoundParts) → length globals ≤ n → Finds (NamedBelow global_named globals n) old new → Finds (IsHeld globals) old new
-held_all globals n old new over finds = named_all global_named globals n (IsHeld globals) old new over (λ p held. held) (λ p i x at names. (i, x, (at, names))) finds
+pub held_all : (globals : List GlobalLine) (n : ℕ) (old new : FoundParts) → length globals ≤ n → Finds (NamedBelow global_named globals n) old new → Finds (GlobalHolds globals) old new
+held_all globals n old new over finds = named_all global_named globals n (GlobalHolds globals) old new over (λ p held. held) (λ p i x at names. (i, x, (at, names))) finds
 
 -- what an object names
 one_line : (objects : List ObjectLine) (number : ℕ) (line other : ObjectLine) → slice_get objects number ≡ Some line → slice_get objects number ≡ Some other → line ≡ other
 one_line objects number line other this that = let both : Some line ≡ Some other = sym this ∙ that in cc
 
 pub names_all : (objects : List ObjectLine) (number : ℕ) (line : ObjectLine) (values : List ImageValue) (n : ℕ) (old new : FoundParts) → slice_get objects number ≡ Some line → values ≡ line_values line → length values ≤ n
-    → Finds (NamedBelow number_named values n) old new → Finds (Names objects number) old new
+    → Finds (NamedBelow number_named values n) old new → Finds (NamesByNumber objects number) old new
 names_all objects number line values n old new at are over finds =
-    named_all number_named values n (Names objects number) old new over
+    named_all number_named values n (NamesByNumber objects number) old new over
     (λ p names.
     let same = one_line objects number names.0 line names.3.0 at in
     let listed : line_values names.0 ≡ values = ap line_values same ∙ sym are in
@@ -81,5 +81,5 @@ names_all objects number line values n old new at are over finds =
     finds
 
 -- no object, no names
-pub names_none : (objects : List ObjectLine) (number : ℕ) (found : FoundParts) → slice_get objects number ≡ None → Finds (Names objects number) found found
-names_none objects number found none = finds_none (Names objects number) found (λ p names. absurd (none-some names.0 (sym none ∙ names.3.0)))
+pub names_none : (objects : List ObjectLine) (number : ℕ) (found : FoundParts) → slice_get objects number ≡ None → Finds (NamesByNumber objects number) found found
+names_none objects number found none = finds_none (NamesByNumber objects number) found (λ p names. absurd (none-some names.0 (sym none ∙ names.3.0)))

@@ -16,7 +16,7 @@ use Rattle.gc_image.specs.declared.image.GlobalLine.{GlobalLine}
 use Rattle.gc_image.specs.declared.image.ObjectLine.{ObjectLine}
 use Rattle.gc_image.specs.Parts.{ImageParts}
 use Rattle.gc_image.specs.Reading.{ended_lines}
-use Rattle.gc_image.specs.Text.{FitsGlobal, FitsImage, FitsObject, FitsType, count_text, ended_line, global_text, global_words, image_lines, image_text, object_text, object_words}
+use Rattle.gc_image.specs.Text.{FitsGlobal, FitsImage, FitsObject, FitsImageType, count_text, ended_line, global_text, global_line_words, image_lines, image_text, object_text, object_words}
 use Rattle.gc_image.proofs.LineLemmas.{no_feed_joined}
 use Rattle.gc_image.proofs.ObjectLemmas.{global_fit, object_fit}
 use Rattle.gc_image.proofs.SectionLemmas.{one_image}
@@ -32,14 +32,14 @@ word_name f = word_text (name_of f) refl
 words_fit : (c : Command) → FitsCommand c → AreWords (words_of c)
 words_fit c fits = let of = has_form c fits in subst AreWords (sym (words_by_form of.0 c of.1)) (word_name of.0, operands_fit of.0 c (fits, of.1))
 
-line_type : (c : Command) → FitsType c → IsLine (spelling c)
+line_type : (c : Command) → FitsImageType c → IsLine (spelling c)
 line_type c fits = no_feed_joined (words_of c) (words_fit c fits.1.fits)
 
 line_object : (x : ObjectLine) → FitsObject x → IsLine (object_text x)
 line_object x fits = no_feed_joined (object_words x) (object_fit x fits)
 
 line_global : (x : GlobalLine) → FitsGlobal x → IsLine (global_text x)
-line_global x fits = no_feed_joined (global_words x) (global_fit x fits)
+line_global x fits = no_feed_joined (global_line_words x) (global_fit x fits)
 
 lines_map : {A : Type 0} (Fits : A → Type 0) (text : A → List ℕ) → ((x : A) → Fits x → IsLine (text x)) → (xs : List A) → AllByRecursion Fits xs → AllByRecursion IsLine (map text xs)
 lines_map Fits text line [] fit = tt
@@ -52,7 +52,7 @@ lines_append (line ∷ front) back fs bs = (fs.0, lines_append front back fs.1 b
 are_lines : (x : ImageParts) → FitsImage x → AllByRecursion IsLine (image_lines x)
 are_lines x fits = (
   no_feed_joined (codes "image" ∷ codes "1" ∷ []) (word_text (codes "image") refl, (word_text (codes "1") refl, tt)),
-  lines_append (map spelling x.types) _ (lines_map FitsType spelling line_type x.types fits.types) (
+  lines_append (map spelling x.types) _ (lines_map FitsImageType spelling line_type x.types fits.types) (
     no_feed_joined (codes "objects" ∷ decimal (length x.objects) ∷ []) (word_text (codes "objects") refl, (word_decimal (length x.objects) fits.few, tt)),
     lines_append (map object_text x.objects) (map global_text x.globals) (lines_map FitsObject object_text line_object x.objects fits.objects) (lines_map FitsGlobal global_text line_global x.globals fits.globals),
   ),

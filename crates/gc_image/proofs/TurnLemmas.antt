@@ -3,7 +3,7 @@ use Rattle.std.proofs.Common.{◌≡◌, ℕ, suc, ◌+◌, ◌<◌, ◌≤◌, 
 use Rattle.std.proofs.lemmas.List.{drop_all}
 use Rattle.gc_types.specs.Declarations.{Declaration}
 use Rattle.gc_commands.specs.declared.command.Command.{Command}
-use Rattle.gc_image.specs.Declaring.{DeclareInTurn, Declares}
+use Rattle.gc_image.specs.Declaring.{DeclareInTurn, CommandDeclares}
 use Rattle.gc_image.specs.Steps.{Declared}
 
 -- what is declared in turn from here is what is from the start
@@ -14,7 +14,7 @@ pub record InTurn (commands : List Command) (types : List Declaration) (i : ℕ)
 pub turn_start : (commands : List Command) → InTurn commands [] 0
 turn_start commands = record { onward = λ all turn. turn; whole = λ all turn. turn }
 
-one_declared : (types : List Declaration) (command : Command) (d e : Declaration) → Declares types command d → Declares types command e → d ≡ e
+one_declared : (types : List Declaration) (command : Command) (d e : Declaration) → CommandDeclares types command d → CommandDeclares types command e → d ≡ e
 one_declared types command d e this that = let both : Some d ≡ Some e = sym this.spelled ∙ that.spelled in cc
 
 module _ (commands : List Command) (types : List Declaration) (i : ℕ) (command : Command) (below : i < length commands) (is : command ≡ get_or commands i command) where

@@ -5,7 +5,7 @@ use Rattle.gc_types.specs.Declarations.{Declaration}
 use Rattle.gc_image.specs.Declaring.{DeclareInTurn}
 use Rattle.gc_image.specs.Parts.{ImageParts}
 use Rattle.gc_image.specs.Text.{FitsImage, image_text}
-use Rattle.gc_image.specs.Well.{AreReached, AreRising, AreWellGlobals, AreWellObjects, IsWell, IsWellImage}
+use Rattle.gc_image.specs.Well.{GlobalsReachAll, AreRising, AreWellGlobals, AreWellObjects, IsWell, IsWellImage}
 use Rattle.gc_image.proofs.TextLemmas.{one_text}
 use Rattle.gc_image.proofs.TurnLemmas.{one_turn}
 
@@ -15,7 +15,7 @@ no_types image none = (λ e. absurd (false≢true e), λ well. absurd (none well
 
 module _ (image : ImageParts) (types : List Declaration) (declared : DeclareInTurn [] image.types types) where
   -- its objects and globals are well, so it depends on what they reach
-  pub by_reach : AreWellObjects types image.objects → AreWellGlobals (length image.objects) image.globals → AreRising image.globals → (b : Bool) → (IsTrue b ↔ AreReached image.objects image.globals)
+  pub by_reach : AreWellObjects types image.objects → AreWellGlobals (length image.objects) image.globals → AreRising image.globals → (b : Bool) → (IsTrue b ↔ GlobalsReachAll image.objects image.globals)
       → IsTrue b ↔ IsWellImage image
   by_reach objects globals rising b told = (
     λ e. record { types = types; declared = declared; objects = objects; globals = globals; rising = rising; reached = told.0 e },
@@ -23,7 +23,7 @@ module _ (image : ImageParts) (types : List Declaration) (declared : DeclareInTu
   )
 
   pub ok_by_reach : {E : Type 0} (r : Result Bool E) → AreWellObjects types image.objects → AreWellGlobals (length image.objects) image.globals → AreRising image.globals
-      → IfOk r (λ b. IsTrue b ↔ AreReached image.objects image.globals) → IfOk r (λ b. IsTrue b ↔ IsWellImage image)
+      → IfOk r (λ b. IsTrue b ↔ GlobalsReachAll image.objects image.globals) → IfOk r (λ b. IsTrue b ↔ IsWellImage image)
   ok_by_reach (Ok b) objects globals rising told = by_reach objects globals rising b told
   ok_by_reach (Err e) objects globals rising told = tt
 

@@ -14,7 +14,7 @@ declared_by types (command.Exn params) = declared_exception params types
 declared_by types _ = None
 
 -- a command declares that type behind these, and the type may be declared there
-pub record Declares (types : List Declaration) (command : Command) (declaration : Declaration) : Type 0 where
+pub record CommandDeclares (types : List Declaration) (command : Command) (declaration : Declaration) : Type 0 where
   pub spelled : declared_by types command ≡ Some declaration
   pub declarable : Declarable types declaration
 
@@ -22,4 +22,4 @@ pub record Declares (types : List Declaration) (command : Command) (declaration 
 abbrev pub DeclareInTurn : List Declaration → List Command → List Declaration → Type 0
 DeclareInTurn types [] all = types ≡ all
 DeclareInTurn types (command ∷ commands) all =
-    (declaration : Declaration) × (Declares types command declaration × DeclareInTurn (types ++ declaration ∷ []) commands all)
+    (declaration : Declaration) × (CommandDeclares types command declaration × DeclareInTurn (types ++ declaration ∷ []) commands all)

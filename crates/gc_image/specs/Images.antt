@@ -1,7 +1,7 @@
 -- When an image is one of a table: of its types, its globals, and the objects that these reach.
 use Rattle.std.specs.Prelude.{◌≡◌, ℕ, List, Some, length, map, slice_get}
 use Rattle.gc_model.specs.Reach.{Reached, AreAll, slot_references}
-use Rattle.gc_model.specs.Table.{Table, Slot, empty_slot}
+use Rattle.gc_model.specs.Table.{Table, Slot, null_slot}
 use Rattle.gc_model.specs.Values.{Reference, null, small, at, Value, numeric, function, continuation, reference, Object, struct, array, host, exception}
 use Rattle.gc_image.specs.declared.image.GlobalLine.{GlobalLine}
 use Rattle.gc_image.specs.declared.image.ImageValue.{ImageValue}
@@ -39,7 +39,7 @@ pub record AreGlobals (position : ℕ → ℕ) (lines : List GlobalLine) (global
   pub said : (i : ℕ) (line : GlobalLine) → slice_get lines i ≡ Some line
       → (slot : Slot) × ((slice_get globals line.index ≡ Some slot) × SaysSlot position line.value slot)
   pub unsaid : (k : ℕ) (slot : Slot) → slice_get globals k ≡ Some slot
-      → ((i : ℕ) (line : GlobalLine) → slice_get lines i ≡ Some line → ¬ (line.index ≡ k)) → slot ≡ empty_slot
+      → ((i : ℕ) (line : GlobalLine) → slice_get lines i ≡ Some line → ¬ (line.index ≡ k)) → slot ≡ null_slot
 
 -- the globals of a table reach a position
 abbrev pub IsGlobal : {D : Type 0} → Table D → ℕ → Type 0

@@ -7,14 +7,14 @@ use Rattle.gc_commands.specs.declared.command.Command.{Command}
 use Rattle.gc_commands.specs.Spelling.{spelling, type_count}
 use Rattle.gc_commands.specs.Words.{bytes_text}
 use Rattle.gc_image.specs.Parts.{ImageParts}
-use Rattle.gc_image.specs.Text.{FitsObject, FitsType, FitsValue, count_text, global_text, object_text, value_text}
+use Rattle.gc_image.specs.Text.{FitsObject, FitsImageType, FitsImageValue, count_text, global_text, object_text, value_text}
 use Rattle.gc_image.specs.declared.image.GlobalLine.{GlobalLine}
 use Rattle.gc_image.specs.declared.image.ImageValue.{ImageValue}
 use Rattle.gc_image.specs.declared.image.ObjectLine.{ObjectLine}
 
 -- a type and values
 abbrev pub FitRow : ℕ × List ImageValue → Type 0
-FitRow p = (p.0 < type_count) × AllByRecursion FitsValue p.1
+FitRow p = (p.0 < type_count) × AllByRecursion FitsImageValue p.1
 
 abbrev pub row_words : ℕ × List ImageValue → List (List ℕ)
 row_words p = decimal p.0 ∷ map value_text p.1
@@ -43,20 +43,20 @@ ReadsTagged words (Some p) rest = FitTagged p × (words ≡ tagged_words p rest)
 
 -- a type, a tag and values
 abbrev pub FitExn : ℕ × Tag × List ImageValue → Type 0
-FitExn p = (p.0 < type_count) × (p.1.instance < 2 ^ 32) × (p.1.index < 2 ^ 32) × AllByRecursion FitsValue p.2
+FitExn p = (p.0 < type_count) × (p.1.instance < 2 ^ 32) × (p.1.index < 2 ^ 32) × AllByRecursion FitsImageValue p.2
 
 abbrev pub exn_words : ℕ × Tag × List ImageValue → List (List ℕ)
 exn_words p = decimal p.0 ∷ decimal p.1.instance ∷ decimal p.1.index ∷ map value_text p.2
 
 -- the index of a global and what it holds
-abbrev pub held_words : GlobalLine → List (List ℕ)
-held_words global = decimal global.index ∷ value_text global.value ∷ []
+abbrev pub global_operands : GlobalLine → List (List ℕ)
+global_operands global = decimal global.index ∷ value_text global.value ∷ []
 
 -- the types are all that the lines begin with
 pub record ReadsTypes (lines : List (List ℕ)) (types : List Command) (rest : List (List ℕ)) : Type 0 where
-  pub fit : AllByRecursion FitsType types
+  pub fit : AllByRecursion FitsImageType types
   pub read : lines ≡ map spelling types ++ rest
-  pub stops : (type : Command) (others : List (List ℕ)) → FitsType type → ¬ (rest ≡ spelling type ∷ others)
+  pub stops : (type : Command) (others : List (List ℕ)) → FitsImageType type → ¬ (rest ≡ spelling type ∷ others)
 
 -- so many objects, or none where the lines begin with no such
 abbrev pub ReadsObjects : ℕ → List (List ℕ) → Option (List ObjectLine) → List (List ℕ) → Type 0

@@ -12,31 +12,31 @@ use Rattle.gc_model.specs.Values.{Value, numeric, i32}
 use Rattle.gc_image.specs.declared.image.ImageValue.{ImageValue}
 use Rattle.gc_image.specs.declared.image.ObjectLine.{ObjectLine}
 use Rattle.gc_image.specs.declared.image.ObjectLine.TheVariants as object
-use Rattle.gc_image.specs.Declaring.{Declares}
+use Rattle.gc_image.specs.Declaring.{CommandDeclares}
 use Rattle.gc_image.specs.Well.{is_early, number_named}
 
 -- the command's type was declared behind the others, or it may not be
 abbrev pub Declared : List Declaration → Command → List Declaration → Bool → Type 0
-Declared old command new true = (declaration : Declaration) × (Declares old command declaration × (new ≡ old ++ declaration ∷ []))
-Declared old command new false = (declaration : Declaration) → ¬ Declares old command declaration
+Declared old command new true = (declaration : Declaration) × (CommandDeclares old command declaration × (new ≡ old ++ declaration ∷ []))
+Declared old command new false = (declaration : Declaration) → ¬ CommandDeclares old command declaration
 
 -- The type of an object as a reference of that class; none where it fits no type of the class.
-abbrev pub own_type : GcClass → ObjectLine → Option HeapType
-own_type class.Any (object.Struct ty values) = Some (heap.ConcreteStruct ty)
-own_type class.Any (object.Array ty values) = Some (heap.ConcreteArray ty)
-own_type class.Any (object.Bytes ty bytes) = Some (heap.ConcreteArray ty)
-own_type class.Any (object.Host number) = None
-own_type class.Any (object.Exn ty tag values) = None
-own_type class.Extern (object.Struct ty values) = Some heap.Extern
-own_type class.Extern (object.Array ty values) = Some heap.Extern
-own_type class.Extern (object.Bytes ty bytes) = Some heap.Extern
-own_type class.Extern (object.Host number) = Some heap.Extern
-own_type class.Extern (object.Exn ty tag values) = None
-own_type class.Exn (object.Struct ty values) = None
-own_type class.Exn (object.Array ty values) = None
-own_type class.Exn (object.Bytes ty bytes) = None
-own_type class.Exn (object.Host number) = None
-own_type class.Exn (object.Exn ty tag values) = Some (heap.ConcreteExn ty)
+abbrev pub line_heap_type : GcClass → ObjectLine → Option HeapType
+line_heap_type class.Any (object.Struct ty values) = Some (heap.ConcreteStruct ty)
+line_heap_type class.Any (object.Array ty values) = Some (heap.ConcreteArray ty)
+line_heap_type class.Any (object.Bytes ty bytes) = Some (heap.ConcreteArray ty)
+line_heap_type class.Any (object.Host number) = None
+line_heap_type class.Any (object.Exn ty tag values) = None
+line_heap_type class.Extern (object.Struct ty values) = Some heap.Extern
+line_heap_type class.Extern (object.Array ty values) = Some heap.Extern
+line_heap_type class.Extern (object.Bytes ty bytes) = Some heap.Extern
+line_heap_type class.Extern (object.Host number) = Some heap.Extern
+line_heap_type class.Extern (object.Exn ty tag values) = None
+line_heap_type class.Exn (object.Struct ty values) = None
+line_heap_type class.Exn (object.Array ty values) = None
+line_heap_type class.Exn (object.Bytes ty bytes) = None
+line_heap_type class.Exn (object.Host number) = None
+line_heap_type class.Exn (object.Exn ty tag values) = Some (heap.ConcreteExn ty)
 
 -- so of a small integer
 abbrev pub small_type : GcClass → Option HeapType
@@ -45,9 +45,9 @@ small_type class.Extern = Some heap.Extern
 small_type class.Exn = None
 
 -- whether what has that type fits another
-abbrev pub own_fits : List (Option ℕ) → Option HeapType → HeapType → Bool
-own_fits supers None ty = false
-own_fits supers (Some own) ty = matches supers own ty
+abbrev pub type_fits : List (Option ℕ) → Option HeapType → HeapType → Bool
+type_fits supers None ty = false
+type_fits supers (Some own) ty = matches supers own ty
 
 -- a number of 32 bits, if the value is one, is below a bound
 abbrev pub IsBelow : Value → ℕ → Type 0
@@ -63,7 +63,7 @@ pub record FoundParts : Type 0 where
   pub marked : List Bool
   pub numbers : List ℕ
 
-pub record IsFound (found : FoundParts) : Type 0 where
+pub record MarksFound (found : FoundParts) : Type 0 where
   pub listed : (p : ℕ) → slice_get found.marked p ≡ Some true → (k : ℕ) × (slice_get found.numbers k ≡ Some p)
   pub marks : (k p : ℕ) → slice_get found.numbers k ≡ Some p → slice_get found.marked p ≡ Some true
   pub counted : count_by (λ b. b) found.marked ≡ length found.numbers
@@ -75,7 +75,7 @@ pub record Finds (Sought : ℕ → Type 0) (old new : FoundParts) : Type 0 where
   pub stays : (p : ℕ) → slice_get old.marked p ≡ Some true → slice_get new.marked p ≡ Some true
   pub finds : (p : ℕ) → Sought p → p < length old.marked → slice_get new.marked p ≡ Some true
   pub only : (k p : ℕ) → slice_get new.numbers k ≡ Some p → (slice_get old.numbers k ≡ Some p) ⊎ Sought p
-  pub found : IsFound old → IsFound new
+  pub found : MarksFound old → MarksFound new
 
 -- none of so many objects is found
 abbrev pub none_found : ℕ → FoundParts

@@ -60,11 +60,11 @@ object_words (object.Exn ty tag values) = codes "e" ∷ decimal ty ∷ decimal t
 abbrev pub object_text : ObjectLine → List ℕ
 object_text object = join_with_byte 32 (object_words object)
 
-abbrev pub global_words : GlobalLine → List (List ℕ)
-global_words global = codes "global" ∷ decimal global.index ∷ value_text global.value ∷ []
+abbrev pub global_line_words : GlobalLine → List (List ℕ)
+global_line_words global = codes "global" ∷ decimal global.index ∷ value_text global.value ∷ []
 
 abbrev pub global_text : GlobalLine → List ℕ
-global_text global = join_with_byte 32 (global_words global)
+global_text global = join_with_byte 32 (global_line_words global)
 
 -- the line that says how many objects follow
 abbrev pub count_text : ℕ → List ℕ
@@ -84,36 +84,36 @@ ended_line line = line ++ 10 ∷ []
 abbrev pub image_text : ImageParts → List ℕ
 image_text image = flat_map ended_line (image_lines image)
 
-abbrev pub FitsReference : ImageReference → Type 0
-FitsReference reference.Null = Unit {0}
-FitsReference (reference.Small n) = n < 2 ^ 31
-FitsReference (reference.Object number) = number < 2 ^ 64
+abbrev pub FitsImageReference : ImageReference → Type 0
+FitsImageReference reference.Null = Unit {0}
+FitsImageReference (reference.Small n) = n < 2 ^ 31
+FitsImageReference (reference.Object number) = number < 2 ^ 64
 
-abbrev pub FitsValue : ImageValue → Type 0
-FitsValue (value.I32 n) = FitsSigned w32 n
-FitsValue (value.I64 n) = FitsSigned w64 n
-FitsValue (value.F32 n) = n < 2 ^ 32
-FitsValue (value.F64 n) = n < 2 ^ 64
-FitsValue (value.V128 n) = n < 2 ^ 128
-FitsValue (value.Ref class r) = FitsReference r
+abbrev pub FitsImageValue : ImageValue → Type 0
+FitsImageValue (value.I32 n) = FitsSigned w32 n
+FitsImageValue (value.I64 n) = FitsSigned w64 n
+FitsImageValue (value.F32 n) = n < 2 ^ 32
+FitsImageValue (value.F64 n) = n < 2 ^ 64
+FitsImageValue (value.V128 n) = n < 2 ^ 128
+FitsImageValue (value.Ref class r) = FitsImageReference r
 
 abbrev pub FitsObject : ObjectLine → Type 0
-FitsObject (object.Struct ty values) = (ty < type_count) × AllByRecursion FitsValue values
-FitsObject (object.Array ty values) = (ty < type_count) × AllByRecursion FitsValue values
+FitsObject (object.Struct ty values) = (ty < type_count) × AllByRecursion FitsImageValue values
+FitsObject (object.Array ty values) = (ty < type_count) × AllByRecursion FitsImageValue values
 FitsObject (object.Bytes ty bytes) = (ty < type_count) × AllByRecursion (λ b. b < 2 ^ 8) bytes
 FitsObject (object.Host number) = number < 2 ^ 64
-FitsObject (object.Exn ty tag values) = (ty < type_count) × (tag.instance < 2 ^ 32) × (tag.index < 2 ^ 32) × AllByRecursion FitsValue values
+FitsObject (object.Exn ty tag values) = (ty < type_count) × (tag.instance < 2 ^ 32) × (tag.index < 2 ^ 32) × AllByRecursion FitsImageValue values
 
 abbrev pub FitsGlobal : GlobalLine → Type 0
-FitsGlobal global = (global.index < 2 ^ 16) × FitsValue global.value
+FitsGlobal global = (global.index < 2 ^ 16) × FitsImageValue global.value
 
 -- a type: a command that declares one, and that has a line
-abbrev pub FitsType : Command → Type 0
-FitsType command = IsDeclaring command × Spells (spelling command) command
+abbrev pub FitsImageType : Command → Type 0
+FitsImageType command = IsDeclaring command × Spells (spelling command) command
 
 -- each number is in the range of its part, and each type is a command
 pub record FitsImage (image : ImageParts) : Type 0 where
-  pub types : AllByRecursion FitsType image.types
+  pub types : AllByRecursion FitsImageType image.types
   pub few : length image.objects < 2 ^ 64
   pub objects : AllByRecursion FitsObject image.objects
   pub globals : AllByRecursion FitsGlobal image.globals

@@ -72,16 +72,16 @@ HasShape types (object.Host number) = Unit {0}
 HasShape types (object.Exn ty tag values) = option_map length (exn_fields_at types ty) ≡ Some (length values)
 
 -- a reference that an object must have from the start: its field is constant or not nullable
-abbrev pub is_constant : Mutability → Bool
-is_constant Const = true
-is_constant Var = false
+abbrev pub is_immutable : Mutability → Bool
+is_immutable Const = true
+is_immutable Var = false
 
 abbrev pub wants_object : StorageType → Bool
 wants_object (storage.ValType (val.Ref ty)) = not ty.nullable
 wants_object ty = false
 
 abbrev pub is_early : FieldType → Bool
-is_early field = is_constant field.mutability || wants_object field.element_type
+is_early field = is_immutable field.mutability || wants_object field.element_type
 
 -- the number of the object that a value names
 abbrev pub number_named : ImageValue → Option ℕ
@@ -129,18 +129,18 @@ abbrev pub AreRising : List GlobalLine → Type 0
 AreRising globals = (i : ℕ) (one next : GlobalLine) → slice_get globals i ≡ Some one → slice_get globals (i + 1) ≡ Some next → one.index < next.index
 
 -- some global holds the object with that number
-abbrev pub IsHeld : List GlobalLine → ℕ → Type 0
-IsHeld globals number = (i : ℕ) × (global : GlobalLine) × ((slice_get globals i ≡ Some global) × (number_named global.value ≡ Some number))
+abbrev pub GlobalHolds : List GlobalLine → ℕ → Type 0
+GlobalHolds globals number = (i : ℕ) × (global : GlobalLine) × ((slice_get globals i ≡ Some global) × (number_named global.value ≡ Some number))
 
 -- the object with one number names that with another
-abbrev pub Names : List ObjectLine → ℕ → ℕ → Type 0
-Names objects from to =
+abbrev pub NamesByNumber : List ObjectLine → ℕ → ℕ → Type 0
+NamesByNumber objects from to =
     (line : ObjectLine) × (i : ℕ) × (v : ImageValue)
     × ((slice_get objects from ≡ Some line) × ((slice_get (line_values line) i ≡ Some v) × (number_named v ≡ Some to)))
 
 -- the globals reach every object
-abbrev pub AreReached : List ObjectLine → List GlobalLine → Type 0
-AreReached objects globals = (number : ℕ) → number < length objects → Reachable (IsHeld globals) (Names objects) number
+abbrev pub GlobalsReachAll : List ObjectLine → List GlobalLine → Type 0
+GlobalsReachAll objects globals = (number : ℕ) → number < length objects → Reachable (GlobalHolds globals) (NamesByNumber objects) number
 
 -- An image is well.
 pub record IsWellImage (image : ImageParts) : Type 0 where
@@ -152,7 +152,7 @@ pub record IsWellImage (image : ImageParts) : Type 0 where
   pub globals : AreWellGlobals (length image.objects) image.globals
   pub rising : AreRising image.globals
   -- the globals reach every object
-  pub reached : AreReached image.objects image.globals
+  pub reached : GlobalsReachAll image.objects image.globals
 
 -- the bytes are the text of an image that is well
 pub record IsWell (bytes : List ℕ) : Type 0 where

@@ -2,7 +2,7 @@
 
 ghost use Rattle.std.specs.Prelude.{◌≡◌, [], None, IfOk, IfSome, IfNone, List, length};
 ghost use Rattle.gc_types.specs.Declarations.{Declaration};
-ghost use Rattle.gc_image.specs.Declaring.{DeclareInTurn, Declares};
+ghost use Rattle.gc_image.specs.Declaring.{DeclareInTurn, CommandDeclares};
 ghost use Rattle.gc_image.specs.Steps.{Declared};
 
 use gc_commands::type_words::{field_of, fields_of, index_of, values_of};

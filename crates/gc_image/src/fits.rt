@@ -4,7 +4,7 @@ ghost use Rattle.std.specs.Prelude.{◌≡◌, ◌↔◌, IsTrue, map};
 ghost use Rattle.gc_types.specs.Subtyping.{supertypes_of};
 ghost use Rattle.gc_model.specs.Fits.{fits, fits_type, matches, reference_fits};
 ghost use Rattle.gc_model.specs.Stored.{stored};
-ghost use Rattle.gc_image.specs.Steps.{IsBelow, own_fits, own_type, small_type};
+ghost use Rattle.gc_image.specs.Steps.{IsBelow, type_fits, line_heap_type, small_type};
 ghost use Rattle.gc_image.specs.Well.{as_object, as_reference, as_value, is_early};
 
 use crate::image::{ImageReference, ImageValue, ObjectLine};
@@ -16,7 +16,7 @@ use gc_types::{
 
 /// The type of an object by itself, as a reference of that class; None where it fits no type of the class.
 fn own_type(class: GcClass, object: &ObjectLine) -> Option<HeapType>
-    ensures { result ≡ own_type class object.now }
+    ensures { result ≡ line_heap_type class object.now }
 {
     match class {
         GcClass::Any => own_any_type(object),
@@ -33,7 +33,7 @@ fn own_type(class: GcClass, object: &ObjectLine) -> Option<HeapType>
 
 /// The same of class any.
 fn own_any_type(object: &ObjectLine) -> Option<HeapType>
-    ensures { result ≡ own_type GcClass.Any object.now }
+    ensures { result ≡ line_heap_type GcClass.Any object.now }
 {
     match object {
         ObjectLine::Struct { ty, .. } => {
@@ -59,7 +59,7 @@ fn small_type(class: GcClass) -> Option<HeapType>
 
 /// Whether what has that type by itself fits a type.
 fn own_fits(types: &Types, own: Option<HeapType>, ty: &RefType) -> bool
-    ensures { result ≡ own_fits (supertypes_of types.now.declarations) own ty.now.heap_type }
+    ensures { result ≡ type_fits (supertypes_of types.now.declarations) own ty.now.heap_type }
 {
     match own {
         Some(own) => matches(types, own, ty),

@@ -7,8 +7,8 @@ ghost use Rattle.std.specs.Option.{option_map};
 ghost use Rattle.std.specs.Str.{IsUtf8};
 ghost use Rattle.gc_commands.specs.Reading.{Reads, ReadsFirst};
 ghost use Rattle.gc_commands.specs.Spelling.{type_count};
-ghost use Rattle.gc_image.specs.Text.{FitsGlobal, FitsObject, FitsValue, global_text, global_words, object_text, object_words, value_text};
-ghost use Rattle.gc_image.specs.Reading.{FitBytes, FitExn, FitRow, ReadsTagged, bytes_words, exn_words, held_words, host_words, row_words};
+ghost use Rattle.gc_image.specs.Text.{FitsGlobal, FitsObject, FitsImageValue, global_text, global_line_words, object_text, object_words, value_text};
+ghost use Rattle.gc_image.specs.Reading.{FitBytes, FitExn, FitRow, ReadsTagged, bytes_words, exn_words, global_operands, host_words, row_words};
 
 use crate::image::{GlobalLine, ImageValue, ImageValues, ObjectLine};
 use crate::values::value_of;
@@ -142,7 +142,7 @@ fn read_tagged(words: &mut Words) -> Option<(u32, Tag)>
 
 /// The global that the words spell.
 fn read_global(words: &mut Words) -> Option<GlobalLine>
-    ensures { Reads FitsGlobal global_words words.old result }
+    ensures { Reads FitsGlobal global_line_words words.old result }
 {
     match words.next()? {
         "global" => read_held(words),
@@ -152,7 +152,7 @@ fn read_global(words: &mut Words) -> Option<GlobalLine>
 
 /// The words behind `global`: an index and a value.
 fn read_held(words: &mut Words) -> Option<GlobalLine>
-    ensures { Reads FitsGlobal held_words words.old result }
+    ensures { Reads FitsGlobal global_operands words.old result }
 {
     let index = number(words.next()?, u64::from(u16::MAX))?;
     let value = value_of(words.next()?)?;
@@ -165,7 +165,7 @@ fn read_held(words: &mut Words) -> Option<GlobalLine>
 
 /// The values that all words spell.
 fn read_values(alloc: Global, words: &mut Words) -> Result<Option<Vec<ImageValue>>, AllocError>
-    ensures { IfOk result (λ values. Reads (AllByRecursion FitsValue) (map value_text) words.old (option_map (λ vs. vs.items) values)) }
+    ensures { IfOk result (λ values. Reads (AllByRecursion FitsImageValue) (map value_text) words.old (option_map (λ vs. vs.items) values)) }
 {
     let mut values = Vec::with_capacity(alloc, words.count())?;
     while let Some(word) = words.next() {

@@ -3,7 +3,7 @@
 
 ghost use Rattle.std.specs.Prelude.{◌≡◌, ◌<◌, ◌↔◌, ℕ, IsTrue, IfOk, Some, length, slice_get, true};
 ghost use Rattle.gc_image.specs.Steps.{Finds, none_found};
-ghost use Rattle.gc_image.specs.Well.{AreReached, IsHeld, Names, number_named};
+ghost use Rattle.gc_image.specs.Well.{GlobalsReachAll, GlobalHolds, NamesByNumber, number_named};
 
 use crate::image::{GlobalLine, ImageValue, ObjectLine};
 use crate::objects::{number_named, values_of};
@@ -31,7 +31,7 @@ pub(crate) fn are_reached(
     objects: &[ObjectLine],
     globals: &[GlobalLine],
 ) -> Result<bool, AllocError>
-    ensures { IfOk result (λ all. IsTrue all ↔ AreReached objects.now globals.now) }
+    ensures { IfOk result (λ all. IsTrue all ↔ GlobalsReachAll objects.now globals.now) }
 {
     let mut found = find_held(alloc, objects.len(), globals)?;
     let mut next = 0;
@@ -45,7 +45,7 @@ pub(crate) fn are_reached(
 
 /// Finds what the globals hold, of so many objects.
 fn find_held(alloc: Global, count: usize, globals: &[GlobalLine]) -> Result<Found, AllocError>
-    ensures { IfOk result (λ found. Finds (IsHeld globals.now) (none_found count) found) }
+    ensures { IfOk result (λ found. Finds (GlobalHolds globals.now) (none_found count) found) }
 {
     let mut found = Found {
         marked: vec![in alloc; false; count]?,
@@ -59,7 +59,7 @@ fn find_held(alloc: Global, count: usize, globals: &[GlobalLine]) -> Result<Foun
 
 /// Finds what an object names.
 fn find_named(found: &mut Found, objects: &[ObjectLine], number: usize) -> Result<(), AllocError>
-    ensures { IfOk result (λ _. Finds (Names objects.now number) found.old found.new) }
+    ensures { IfOk result (λ _. Finds (NamesByNumber objects.now number) found.old found.new) }
 {
     let Some(line) = objects.get(number) else {
         return Ok(());

@@ -6,7 +6,7 @@ ghost use Rattle.std.specs.List.{AllByRecursion};
 ghost use Rattle.std.specs.Option.{option_map};
 ghost use Rattle.gc_commands.specs.Reading.{Reads, ReadsFirst};
 ghost use Rattle.gc_commands.specs.Spelling.{IsDeclaring, spelling};
-ghost use Rattle.gc_image.specs.Text.{FitsGlobal, FitsType, count_text};
+ghost use Rattle.gc_image.specs.Text.{FitsGlobal, FitsImageType, count_text};
 ghost use Rattle.gc_image.specs.Reading.{ReadsObjects, ReadsTypes, ended_globals};
 
 use crate::image::{GlobalLine, ObjectLine};
@@ -49,7 +49,7 @@ pub(crate) fn read_types(alloc: Global, lines: &mut Lines) -> Result<Vec<Command
 
 /// The type that a line declares.
 fn type_of(alloc: Global, line: &[u8]) -> Result<Option<Command>, AllocError>
-    ensures { IfOk result (λ command. Reads FitsType spelling line.now command) }
+    ensures { IfOk result (λ command. Reads FitsImageType spelling line.now command) }
 {
     let command = parse_line(alloc, line)?;
     if is_declaring(&command) {

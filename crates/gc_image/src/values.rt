@@ -1,7 +1,7 @@
 //! Words that spell values.
 
 ghost use Rattle.gc_commands.specs.Reading.{Reads};
-ghost use Rattle.gc_image.specs.Text.{FitsReference, FitsValue, reference_text, value_text};
+ghost use Rattle.gc_image.specs.Text.{FitsImageReference, FitsImageValue, reference_text, value_text};
 
 use crate::image::{ImageReference, ImageValue};
 use gc_commands::hex::hex_number;
@@ -14,7 +14,7 @@ const MAX_SMALL: u64 = 2_147_483_647;
 
 /// The value that a word spells.
 pub(crate) fn value_of(word: &str) -> Option<ImageValue>
-    ensures { Reads FitsValue value_text word.now result }
+    ensures { Reads FitsImageValue value_text word.now result }
 {
     let (name, rest) = word.split_once(':')?;
     match name {
@@ -32,7 +32,7 @@ pub(crate) fn value_of(word: &str) -> Option<ImageValue>
 
 /// The reference that the text behind a class and its colon spells.
 fn reference_of(text: &str) -> Option<ImageReference>
-    ensures { Reads FitsReference reference_text text.now result }
+    ensures { Reads FitsImageReference reference_text text.now result }
 {
     if let Some(digits) = text.strip_prefix("i31:") {
         return Some(ImageReference::Small(number(digits, MAX_SMALL)? as u32));

@@ -16,7 +16,7 @@ use Rattle.gc_model.specs.Holds.{Holds, Placing}
 use Rattle.gc_model.specs.Reach.{AreAll, Reached, by_start, by_step, object_values, root_references, slot_references, value_references, owned_references, present}
 use Rattle.gc_model.specs.Reads.{is_null}
 use Rattle.gc_model.specs.Stores.{StoreView}
-use Rattle.gc_model.specs.Table.{Slot, Table, Scoped, empty_slot, global_count}
+use Rattle.gc_model.specs.Table.{Slot, Table, Scoped, null_slot, global_count}
 use Rattle.gc_model.specs.Values.{Object, Reference, Value, null, small, at, numeric, function, continuation, reference}
 use Rattle.gc_model.proofs.Members.{contains_get, map_among}
 use Rattle.gc_policy.proofs.CollectedKept.{reached_placed}
@@ -26,7 +26,7 @@ use Rattle.gc_policy.proofs.HeldSums.{distinct_passing, passes, passing, sum_par
 use Rattle.gc_policy.specs.Accounts.{Account}
 use Rattle.gc_store.specs.Slots.{slot_value}
 use Rattle.gc_paths.specs.Answers.{LacksRoots, held_count, present_count}
-use Rattle.gc_paths.specs.Progress.{Basis, value_count}
+use Rattle.gc_paths.specs.Progress.{Basis, present_in_value}
 use Rattle.gc_paths.proofs.Ending.{room_is}
 use Rattle.gc_paths.proofs.Growing.{lacks_more}
 use Rattle.gc_image.specs.declared.image.GlobalLine.{GlobalLine}
@@ -42,10 +42,10 @@ use Rattle.gc_image_collect.specs.declared.globals.GlobalRead.{GlobalRead}
 use Rattle.std.specs.Prelude.{MatchResult}
 use Rattle.gc_image_collect.specs.declared.fault.CollectFault.{CollectFault}
 use Rattle.gc_image_collect.specs.declared.fault.CollectFault.TheVariants as fault
-use Rattle.gc_image_collect.specs.Answers.{Collects, IsFull, RefusesCollection}
+use Rattle.gc_image_collect.specs.Answers.{CollectsImage, LacksImageRoots, RefusesCollection}
 use Rattle.gc_image_collect.specs.GlobalSteps.{AllRead, AnswersGlobals, GlobalsRead, GlobalsSaid, IsSaid, StoppedAt, slot_count, slots_count}
-use Rattle.gc_image_collect.specs.Parts.{FoundParts, empty_parts}
-use Rattle.gc_image_collect.specs.Progress.{Agrees, AnswersPart, Ended, GoesOn, PassesRoom, Progress, held_at}
+use Rattle.gc_image_collect.specs.Parts.{FoundHandles, empty_found}
+use Rattle.gc_image_collect.specs.Progress.{Agrees, AnswersImagePart, HasAllLines, ImageGoesOn, ImagePassesRoom, ImageProgress, held_at}
 use Rattle.gc_image_collect.proofs.FirstValues.{below_kept, told_kept}
 use Rattle.gc_image_collect.proofs.Rounds.{object_there}
 
@@ -54,7 +54,7 @@ pub slots_counted : (slots : List Slot) → slots_count slots ≡ present_count 
 slots_counted [] = refl
 slots_counted (slot ∷ slots) = sum_by-cons slot_count slot slots ∙ one slot.reference (slots_counted slots)
   where
-    one : (r : Reference) → slots_count slots ≡ present_count (slot_references slots) → value_count (reference slot.class r) + slots_count slots ≡ present_count (r ∷ slot_references slots)
+    one : (r : Reference) → slots_count slots ≡ present_count (slot_references slots) → present_in_value (reference slot.class r) + slots_count slots ≡ present_count (r ∷ slot_references slots)
     one null same = let more = sum_by-cons (λ (q : Reference). cond (not (is_null q)) 1 0) null (slot_references slots) in omega (arith, more, same)
     one (small n) same = let more = sum_by-cons (λ (q : Reference). cond (not (is_null q)) 1 0) (small n) (slot_references slots) in omega (arith, more, same)
     one (at p) same = let more = sum_by-cons (λ (q : Reference). cond (not (is_null q)) 1 0) (at p) (slot_references slots) in omega (arith, more, same)
@@ -71,14 +71,14 @@ module _ (layouts : Layouts) (t : Table ℕ) (a : Account) (s : StoreView ℕ) (
   abbrev pub read_count : ℕ
   read_count = slots_count (take (length t.globals) t.globals)
 
-  abbrev pub begun : (f : FoundParts) → f ≡ empty_parts → Progress layouts basis [] read_count s f
+  abbrev pub begun : (f : FoundHandles) → f ≡ empty_found → ImageProgress layouts basis [] read_count s f
   begun f empty = record {
     holds = record { now = read.now; grown = read.grown; there = (read.held.holds, read.held.account) };
     lists = record {
-      same_count = ap (λ (x : FoundParts). length x.handles) empty;
+      same_count = ap (λ (x : FoundHandles). length x.handles) empty;
       named = λ n p h e at_h. absurd (none-some p e);
       has = λ n p e. absurd (none-some p e);
-      only = λ word n e. absurd (none-some n (sym (ap (λ (x : FoundParts). x.number word) empty) ∙ e));
+      only = λ word n e. absurd (none-some n (sym (ap (λ (x : FoundHandles). x.number word) empty) ∙ e));
     };
     distinct = no_numbers;
     reached = λ n p e. absurd (none-some p e);
@@ -154,7 +154,7 @@ slot_says position slot (value.Ref k r) e = λ i. record { class = same_class e 
     same_reference e = cc e
 
 -- the line of a global holds a reference that isn't null of class Any, and names what has a number
-line_holds : (count : ℕ) (position : ℕ → ℕ) (slot : Slot) (x : ImageValue) → SaysSlot position x slot → ¬ (slot ≡ empty_slot) → ((n : ℕ) → number_named x ≡ Some n → n < count) → HoldsReference count x
+line_holds : (count : ℕ) (position : ℕ → ℕ) (slot : Slot) (x : ImageValue) → SaysSlot position x slot → ¬ (slot ≡ null_slot) → ((n : ℕ) → number_named x ≡ Some n → n < count) → HoldsReference count x
 line_holds count position slot (value.I32 n) says set named = absurd says
 line_holds count position slot (value.I64 n) says set named = absurd says
 line_holds count position slot (value.F32 n) says set named = absurd says
@@ -170,8 +170,8 @@ line_holds count position slot (value.Ref class.Any (image_reference.Object n)) 
 line_holds count position slot (value.Ref class.Extern (image_reference.Object n)) says set named = named n refl
 line_holds count position slot (value.Ref class.Exn (image_reference.Object n)) says set named = named n refl
 
-module _ (layouts : Layouts) (b : Basis ℕ) (count : ℕ) (s s' : StoreView ℕ) (f f' : FoundParts) (globals : List GlobalLine) (lines : List ObjectLine) (few : length b.table.globals ≡ global_count)
-    (goes : GoesOn layouts b [] count s f (λ then. GlobalsSaid then (length b.table.globals) b.table.globals globals)) (ended : Ended layouts b goes.told count s' f' lines) where
+module _ (layouts : Layouts) (b : Basis ℕ) (count : ℕ) (s s' : StoreView ℕ) (f f' : FoundHandles) (globals : List GlobalLine) (lines : List ObjectLine) (few : length b.table.globals ≡ global_count)
+    (goes : ImageGoesOn layouts b [] count s f (λ then. GlobalsSaid then (length b.table.globals) b.table.globals globals)) (ended : HasAllLines layouts b goes.told count s' f' lines) where
   -- what a global names has a number
   slot_told : (k : ℕ) (slot : Slot) (p : ℕ) → slice_get b.table.globals k ≡ Some slot → slot.reference ≡ at p → Contains ended.told p
   slot_told k slot p there is = elim (find_line globals k) [
@@ -226,7 +226,7 @@ module _ (layouts : Layouts) (b : Basis ℕ) (count : ℕ) (s s' : StoreView ℕ
     fits_line : line.index < length b.table.globals → FitsGlobal line
     fits_line under = (let is = few in omega (arith, under, is), said.says.fits)
 
-  pub collected_all : count ≡ present_count (slot_references b.table.globals) → (collected : Collected) → collected.objects.items ≡ lines → collected.globals.items ≡ globals → Collects b.table collected
+  pub collected_all : count ≡ present_count (slot_references b.table.globals) → (collected : Collected) → collected.objects.items ≡ lines → collected.globals.items ≡ globals → CollectsImage b.table collected
   collected_all count_is collected objects_are globals_are = record {
     collection = λ plain. record {
       positions = ended.told;
@@ -292,7 +292,7 @@ module _ (layouts : Layouts) (s : StoreView ℕ) (t : Table ℕ) (place : Placin
 
   -- where some of them have more references than there is room for, there is no room for all
   is_full : (part : List ℕ) → IsDistinct nat_eq part → ((p : ℕ) → Contains part p → IsGlobal t p)
-      → LacksRoots t (present_count (slot_references t.globals) + sum_by (λ p. held_count (slice_get t.objects p)) part) → IsFull t
+      → LacksRoots t (present_count (slot_references t.globals) + sum_by (λ p. held_count (slice_get t.objects p)) part) → LacksImageRoots t
   is_full part distinct are lacks =
       let fewer_sum = sum_part (λ p. held_count (slice_get t.objects p)) part reached_all distinct (λ p c. (reached_are.all p).1 (are p c)) in (
         present_count (slot_references t.globals) + sum_by (λ p. held_count (slice_get t.objects p)) reached_all,
@@ -303,7 +303,7 @@ module _ (layouts : Layouts) (s : StoreView ℕ) (t : Table ℕ) (place : Placin
       )
 
   -- where the globals alone have more
-  globals_full : LacksRoots t (slots_count t.globals) → IsFull t
+  globals_full : LacksRoots t (slots_count t.globals) → LacksImageRoots t
   globals_full lacks =
       is_full [] no_numbers (λ p c. absurd (let inside = c.1 in omega (arith, inside)))
       (subst (LacksRoots t) (let is = slots_counted t.globals in omega (arith, is)) lacks)
@@ -313,7 +313,7 @@ module _ (layouts : Layouts) (s : StoreView ℕ) (t : Table ℕ) (place : Placin
   reads_refused a Went fault.RootsFull now full = (globals_full full.0, full.1)
   reads_refused a Went fault.Memory now stopped = (tt, stopped)
 
-  pub objects_refused : {X : Type 0} (b : Basis ℕ) (count : ℕ) → b.table ≡ t → count ≡ present_count (slot_references t.globals) → (Went : X → Type 0) (why : CollectFault) (now : StoreView ℕ) → AnswersPart layouts b Went (PassesRoom b count) (Err why) now
+  pub objects_refused : {X : Type 0} (b : Basis ℕ) (count : ℕ) → b.table ≡ t → count ≡ present_count (slot_references t.globals) → (Went : X → Type 0) (why : CollectFault) (now : StoreView ℕ) → AnswersImagePart layouts b Went (ImagePassesRoom b count) (Err why) now
       → RefusesCollection t why
   objects_refused b count same count_is Went fault.RootsFull now full =
       let over = full.0 in
@@ -322,12 +322,12 @@ module _ (layouts : Layouts) (s : StoreView ℕ) (t : Table ℕ) (place : Placin
       (subst (λ (n : ℕ). LacksRoots b.table (n + sum_by (held_at b) over.part)) count_is over.lacks))
   objects_refused b count same count_is Went fault.Memory now stopped = tt
 
-  pub lines_refused : {X : Type 0} (b : Basis ℕ) (Went : X → Type 0) (why : CollectFault) (now : StoreView ℕ) → AnswersPart layouts b Went ⊥ (Err why) now → RefusesCollection t why
+  pub lines_refused : {X : Type 0} (b : Basis ℕ) (Went : X → Type 0) (why : CollectFault) (now : StoreView ℕ) → AnswersImagePart layouts b Went ⊥ (Err why) now → RefusesCollection t why
   lines_refused b Went fault.RootsFull now full = absurd full.0
   lines_refused b Went fault.Memory now stopped = tt
 
 -- a part that was refused has pushed some roots
-pub part_stopped : {X : Type 0} (layouts : Layouts) (b : Basis ℕ) (Went : X → Type 0) (Full : Type 0) (why : CollectFault) (now : StoreView ℕ) → AnswersPart layouts b Went Full (Err why) now → StoppedAt layouts b.table b.account now
+pub part_stopped : {X : Type 0} (layouts : Layouts) (b : Basis ℕ) (Went : X → Type 0) (Full : Type 0) (why : CollectFault) (now : StoreView ℕ) → AnswersImagePart layouts b Went Full (Err why) now → StoppedAt layouts b.table b.account now
 part_stopped layouts b Went Full fault.RootsFull now full = record { count = full.1.0; now = full.1.1.now; grown = full.1.1.grown; held = record { place = b.place; holds = full.1.1.there.0; account = full.1.1.there.1 } }
 part_stopped layouts b Went Full fault.Memory now stopped = record { count = stopped.0; now = stopped.1.now; grown = stopped.1.grown; held = record { place = b.place; holds = stopped.1.there.0; account = stopped.1.there.1 } }
 

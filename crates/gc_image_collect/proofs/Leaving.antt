@@ -10,7 +10,7 @@ use Rattle.gc_model.specs.Table.{Table, Push, leave}
 use Rattle.gc_policy.specs.Accounts.{Account, HoldsAccount}
 use Rattle.gc_paths.specs.Answers.{drops_after}
 use Rattle.gc_paths.specs.Progress.{Grown}
-use Rattle.gc_image_collect.specs.Answers.{OnlyPushed}
+use Rattle.gc_image_collect.specs.Answers.{DropsImageRoots}
 use Rattle.gc_image_collect.specs.GlobalSteps.{StoppedAt}
 
 not_less : (m n : ℕ) → n ≡ 0 → nat_lt m (m + n) ≡ false
@@ -32,7 +32,7 @@ left_table t now count grown =
 
 -- the scope of a search is left
 pub roots_left : (layouts : Layouts) (t : Table ℕ) (a : Account) (mid new : StoreView ℕ) → StoppedAt layouts t a mid
-    → ((u : Table ℕ) (x : Account) → HoldsAccount layouts mid u x → HoldsAccount layouts new (leave (length t.scoped) u) x) → OnlyPushed layouts t a new
+    → ((u : Table ℕ) (x : Account) → HoldsAccount layouts mid u x → HoldsAccount layouts new (leave (length t.scoped) u) x) → DropsImageRoots layouts t a new
 roots_left layouts t a mid new stopped leaves = record {
   more = stopped.grown.pushes;
   holds = subst (λ (u : Table ℕ). HoldsAccount layouts new u a) (left_table t stopped.now stopped.count stopped.grown) (leaves stopped.now a stopped.held);

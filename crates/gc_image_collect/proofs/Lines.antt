@@ -24,12 +24,12 @@ use Rattle.gc_model.specs.Sizes.{exn_fields_at, shape_exn_fields}
 use Rattle.gc_model.specs.Standing.{Stands}
 use Rattle.gc_model.specs.Stored.{byte_value}
 use Rattle.gc_model.specs.Values.{Value, reference, at, Object, struct, array, host, exception}
-use Rattle.gc_paths.specs.Progress.{value_count, values_count}
+use Rattle.gc_paths.specs.Progress.{present_in_value, values_count}
 use Rattle.gc_image.specs.declared.image.ImageValue.{ImageValue}
 use Rattle.gc_image.specs.declared.image.ObjectLine.{ObjectLine}
 use Rattle.gc_image.specs.declared.image.ObjectLine.TheVariants as line
 use Rattle.gc_image.specs.Images.{placed_value}
-use Rattle.gc_image.specs.Text.{FitsValue}
+use Rattle.gc_image.specs.Text.{FitsImageValue}
 use Rattle.gc_image.specs.Well.{IsPacked, as_value, number_named}
 use Rattle.gc_image_collect.specs.Collection.{is_plain}
 use Rattle.gc_image_collect.specs.Progress.{Agrees, SaysFirst, SaysObject, SaysValue}
@@ -117,7 +117,7 @@ words_are position [] (x ∷ ws) same each = absurd (omega (arith, same))
 words_are position (v ∷ vs) [] same each = absurd (omega (arith, same))
 words_are position (v ∷ vs) (x ∷ ws) same each = λ i. each 0 v x refl refl i ∷ words_are position vs ws (omega (arith, same)) (λ j. each (suc j)) i
 
-all_fit : (told : List ℕ) (vs : List Value) (ws : List ImageValue) → length ws ≡ length vs → ((i : ℕ) (v : Value) (x : ImageValue) → slice_get vs i ≡ Some v → slice_get ws i ≡ Some x → SaysValue told v x) → AllByRecursion FitsValue ws
+all_fit : (told : List ℕ) (vs : List Value) (ws : List ImageValue) → length ws ≡ length vs → ((i : ℕ) (v : Value) (x : ImageValue) → slice_get vs i ≡ Some v → slice_get ws i ≡ Some x → SaysValue told v x) → AllByRecursion FitsImageValue ws
 all_fit told vs [] same each = tt
 all_fit told [] (x ∷ ws) same each = absurd (omega (arith, same))
 all_fit told (v ∷ vs) (x ∷ ws) same each = ((each 0 v x refl refl).fits, all_fit told vs ws (omega (arith, same)) (λ j. each (suc j)))
@@ -191,7 +191,7 @@ no_reference (b ∷ bytes) (suc i) class p e = no_reference bytes i class p e
 
 pub bytes_count : (bytes : List ℕ) → values_count (map byte_value bytes) ≡ 0
 bytes_count [] = refl
-bytes_count (b ∷ bytes) = let more = sum_by-cons value_count (byte_value b) (map byte_value bytes) in let rest = bytes_count bytes in omega (arith, more, rest)
+bytes_count (b ∷ bytes) = let more = sum_by-cons present_in_value (byte_value b) (map byte_value bytes) in let rest = bytes_count bytes in omega (arith, more, rest)
 
 pub bytes_say : (types : List Declaration) → AreDeclared types → (told : List ℕ) (ty : ℕ) (bytes : List ℕ) (l : ObjectLine) → l ≡ line.Bytes ty bytes → IsPacked (elem_at types ty) true → AllByRecursion (λ b. b < 2 ^ 8) bytes
     → SaysObject types told (array ty (map byte_value bytes)) l

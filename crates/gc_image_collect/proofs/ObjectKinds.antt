@@ -28,9 +28,9 @@ use Rattle.gc_paths.specs.Objects.{CountsIn}
 use Rattle.gc_paths.proofs.Counting.{values_counted}
 use Rattle.gc_image_collect.specs.declared.fault.CollectFault.{CollectFault}
 use Rattle.gc_image_collect.specs.declared.fault.CollectFault.TheVariants as fault
-use Rattle.gc_image_collect.specs.Parts.{FoundParts}
-use Rattle.gc_image_collect.specs.Progress.{AnswersPart, GoesOn, Progress, SaysFirst, SaysObject}
-use Rattle.gc_image_collect.specs.Steps.{IsReading, IsOfBytes, NoBytes, IsBytesLine, IsWordsLine}
+use Rattle.gc_image_collect.specs.Parts.{FoundHandles}
+use Rattle.gc_image_collect.specs.Progress.{AnswersImagePart, ImageGoesOn, ImageProgress, SaysFirst, SaysObject}
+use Rattle.gc_image_collect.specs.Steps.{IsNumberedObject, IsOfBytes, NoBytes, IsBytesLine, IsWordsLine}
 use Rattle.gc_image_collect.proofs.Taken.{keeps_itself}
 use Rattle.gc_image_collect.proofs.WasRead.{names_one, object_here}
 use Rattle.gc_image_collect.proofs.Lines.{IsDeclared, is_declared, words_say, bytes_say, bytes_count}
@@ -80,14 +80,14 @@ bytes_element (Some elem) packed = record { elem = elem; is = refl; of_bytes = p
 no_bytes : (types : List Declaration) (o : Object ℕ) (kind : RootedObject) → IsObject (Some o) kind → NoBytes types kind → (ty : ℕ) (values : List Value) (elem : FieldType) → o ≡ array ty values → elem_at types ty ≡ Some elem → elem.element_type ≡ storage.I8 → ⊥
 no_bytes types o kind is none ty values elem e at_elem packed = none ty (length values) elem (subst (λ (x : Object ℕ). IsObject (Some x) kind) e is) at_elem packed
 
-module _ (layouts : Layouts) (b : Basis ℕ) (told : List ℕ) (count : ℕ) (s : StoreView ℕ) (f : FoundParts) (progress : Progress layouts b told count s f) where
+module _ (layouts : Layouts) (b : Basis ℕ) (told : List ℕ) (count : ℕ) (s : StoreView ℕ) (f : FoundHandles) (progress : ImageProgress layouts b told count s f) where
   abbrev now : Table ℕ
   now = progress.holds.now
 
   types_are : s.types ≡ b.table.types
   types_are = progress.holds.there.0.types ∙ ap (λ (t : Table ℕ). t.types) progress.holds.grown.is
 
-  module _ (number : ℕ) (o : Object ℕ) (reading : IsReading b told number o) (h : GcRootIndex) (at_h : slice_get f.handles number ≡ Some h) (kind : RootedObject) (kind_is : IsObject (Some o) kind) where
+  module _ (number : ℕ) (o : Object ℕ) (reading : IsNumberedObject b told number o) (h : GcRootIndex) (at_h : slice_get f.handles number ≡ Some h) (kind : RootedObject) (kind_is : IsObject (Some o) kind) where
     module _ (found : ℕ × ℕ) (of_bytes : IsOfBytes s.types kind found) where
       one : IsArray o found.0 found.1
       one = is_array o kind found.0 found.1 kind_is of_bytes.0
@@ -108,14 +108,14 @@ module _ (layouts : Layouts) (b : Basis ℕ) (told : List ℕ) (count : ℕ) (s 
       pub can_copy : CanCopyBytes ℕ layouts s h found.1
       can_copy = record { table = now; holds = (b.place, progress.holds.there.0); values = one.values; bytes = names_bytes; same_count = one.count }
 
-      pub bytes_taken : AreDeclared s.types → (l : ObjectLine) → IsBytesLine s now h found.0 l → GoesOn layouts b told (count + values_count (object_values o)) s f (λ then. SaysObject b.table.types then o l)
+      pub bytes_taken : AreDeclared s.types → (l : ObjectLine) → IsBytesLine s now h found.0 l → ImageGoesOn layouts b told (count + values_count (object_values o)) s f (λ then. SaysObject b.table.types then o l)
       bytes_taken declared l (bytes, at_l, small, copies) =
           let values_are = copies one.values names_bytes in
           let object_is : array found.0 (map byte_value bytes) ≡ o = ap (array found.0) (sym values_are) ∙ sym one.is in
           record {
             told = told;
             kept = keeps_itself told;
-            progress = subst (λ (x : Object ℕ). Progress layouts b told (count + values_count (object_values x)) s f) object_is (subst (λ (n : ℕ). Progress layouts b told n s f) (let none = bytes_count bytes in omega (arith, none)) progress);
+            progress = subst (λ (x : Object ℕ). ImageProgress layouts b told (count + values_count (object_values x)) s f) object_is (subst (λ (n : ℕ). ImageProgress layouts b told n s f) (let none = bytes_count bytes in omega (arith, none)) progress);
             done = subst (λ (ts : List Declaration). SaysObject ts told o l) types_are (subst (λ (x : Object ℕ). SaysObject s.types told x l) object_is (bytes_say s.types declared told found.0 bytes l at_l of_bytes.1 small));
           }
 
@@ -128,9 +128,9 @@ module _ (layouts : Layouts) (b : Basis ℕ) (told : List ℕ) (count : ℕ) (s 
         (is_declared layouts now.types (naming b.place s.ids) o placed.object
         (object_held layouts s now b.place progress.holds.there.0 reading.position held.0 o placed.object held.1.0 placed.in_heap (object_here layouts b told count s f progress number o reading h at_h)))
 
-    pub words_taken : AreDeclared s.types → NoBytes s.types kind → (total : ℕ) (new : StoreView ℕ) (after : FoundParts) (ws : List ImageValue) (l : ObjectLine)
-        → GoesOn layouts b told total new after (λ then. SaysFirst then (length (object_values o)) (object_values o) ws) → IsWordsLine (Some o) ws l
-        → GoesOn layouts b told total new after (λ then. SaysObject b.table.types then o l)
+    pub words_taken : AreDeclared s.types → NoBytes s.types kind → (total : ℕ) (new : StoreView ℕ) (after : FoundHandles) (ws : List ImageValue) (l : ObjectLine)
+        → ImageGoesOn layouts b told total new after (λ then. SaysFirst then (length (object_values o)) (object_values o) ws) → IsWordsLine (Some o) ws l
+        → ImageGoesOn layouts b told total new after (λ then. SaysObject b.table.types then o l)
     words_taken declared none total new after ws l goes at_l = record {
       told = goes.told;
       kept = goes.kept;
@@ -140,11 +140,11 @@ module _ (layouts : Layouts) (b : Basis ℕ) (told : List ℕ) (count : ℕ) (s 
     }
 
 -- a part that was refused, whatever it was to answer
-pub err_part : {X Y : Type 0} (layouts : Layouts) (b : Basis ℕ) (Went : X → Type 0) (More : Y → Type 0) (Full : Type 0) (why : CollectFault) (s : StoreView ℕ) → AnswersPart layouts b Went Full (Err why) s → AnswersPart layouts b More Full (Err why) s
+pub err_part : {X Y : Type 0} (layouts : Layouts) (b : Basis ℕ) (Went : X → Type 0) (More : Y → Type 0) (Full : Type 0) (why : CollectFault) (s : StoreView ℕ) → AnswersImagePart layouts b Went Full (Err why) s → AnswersImagePart layouts b More Full (Err why) s
 err_part layouts b Went More Full fault.RootsFull s full = full
 err_part layouts b Went More Full fault.Memory s stopped = stopped
 
-module _ (layouts : Layouts) (b : Basis ℕ) (told : List ℕ) (count : ℕ) (s : StoreView ℕ) (f : FoundParts) (progress : Progress layouts b told count s f) (number : ℕ) (o : Object ℕ) (reading : IsReading b told number o) where
+module _ (layouts : Layouts) (b : Basis ℕ) (told : List ℕ) (count : ℕ) (s : StoreView ℕ) (f : FoundHandles) (progress : ImageProgress layouts b told count s f) (number : ℕ) (o : Object ℕ) (reading : IsNumberedObject b told number o) where
   pub number_inside : number < length f.handles
   number_inside = let inside = slice_get_within told number reading.position reading.there in let counts = progress.lists.same_count in omega (arith, inside, counts)
 

@@ -19,25 +19,25 @@ use Rattle.gc_paths.proofs.ValuesLoop.{values_held}
 use Rattle.gc_image.specs.declared.image.ObjectLine.{ObjectLine}
 use Rattle.gc_image_collect.specs.declared.fault.CollectFault.{CollectFault}
 use Rattle.gc_image_collect.specs.declared.fault.CollectFault.TheVariants as fault
-use Rattle.gc_image_collect.specs.Parts.{FoundParts}
-use Rattle.gc_image_collect.specs.Progress.{AnswersPart, Ended, GoesOn, Keeps, PassesRoom, Progress, SaysObject, held_at}
-use Rattle.gc_image_collect.specs.Steps.{IsReading}
+use Rattle.gc_image_collect.specs.Parts.{FoundHandles}
+use Rattle.gc_image_collect.specs.Progress.{AnswersImagePart, HasAllLines, ImageGoesOn, KeepsNumbered, ImagePassesRoom, ImageProgress, SaysObject, held_at}
+use Rattle.gc_image_collect.specs.Steps.{IsNumberedObject}
 use Rattle.gc_image_collect.proofs.Taken.{keeps_itself, keeps_twice}
 use Rattle.gc_image_collect.proofs.FirstValues.{below_kept, told_kept}
 
 -- so many objects were taken
-pub record Round (layouts : Layouts) (b : Basis ℕ) (before : List ℕ) (start number : ℕ) (s : StoreView ℕ) (f : FoundParts) (lines : List ObjectLine) : Type 0 where
+pub record Round (layouts : Layouts) (b : Basis ℕ) (before : List ℕ) (start number : ℕ) (s : StoreView ℕ) (f : FoundHandles) (lines : List ObjectLine) : Type 0 where
   pub told : List ℕ
-  pub kept : Keeps before told
+  pub kept : KeepsNumbered before told
   pub total : ℕ
-  pub progress : Progress layouts b told total s f
+  pub progress : ImageProgress layouts b told total s f
   pub same_count : length lines ≡ number
   pub says : (n p : ℕ) (o : Object ℕ) (l : ObjectLine) → slice_get told n ≡ Some p → slice_get lines n ≡ Some l → slice_get b.table.objects p ≡ Some o → SaysObject b.table.types told o l
   pub total_is : total ≡ start + sum_by (held_at b) (take number told)
   pub reached : number ≤ length told
 
 -- what a line says, it says still where more objects have numbers
-object_kept : (types : List Declaration) (before now : List ℕ) → Keeps before now → (o : Object ℕ) (l : ObjectLine) → SaysObject types before o l → SaysObject types now o l
+object_kept : (types : List Declaration) (before now : List ℕ) → KeepsNumbered before now → (o : Object ℕ) (l : ObjectLine) → SaysObject types before o l → SaysObject types now o l
 object_kept types before now keeps o l says = record {
   is = λ plain position agrees. says.is plain position (λ n p e. agrees n p (keeps n p e));
   shape = says.shape;
@@ -47,14 +47,14 @@ object_kept types before now keeps o l says = record {
 }
 
 -- the first elements of a longer list
-first_same : (xs ys : List ℕ) (n : ℕ) → n ≤ length xs → Keeps xs ys → take n ys ≡ take n xs
+first_same : (xs ys : List ℕ) (n : ℕ) → n ≤ length xs → KeepsNumbered xs ys → take n ys ≡ take n xs
 first_same xs ys zero below keeps = refl
 first_same [] ys (suc n) below keeps = absurd (omega (arith, below))
 first_same (x ∷ xs) [] (suc n) below keeps = absurd (none-some x (keeps 0 x refl))
 first_same (x ∷ xs) (y ∷ ys) (suc n) below keeps = λ i. same_Some y x (keeps 0 x refl) i ∷ first_same xs ys n (omega (arith, below)) (λ k z e. keeps (suc k) z e) i
 
 -- the object that has a number
-pub object_there : (layouts : Layouts) (b : Basis ℕ) (told : List ℕ) (total : ℕ) (s : StoreView ℕ) (f : FoundParts) → Progress layouts b told total s f → (n p : ℕ) → slice_get told n ≡ Some p → (o : Object ℕ) × (slice_get b.table.objects p ≡ Some o)
+pub object_there : (layouts : Layouts) (b : Basis ℕ) (told : List ℕ) (total : ℕ) (s : StoreView ℕ) (f : FoundHandles) → ImageProgress layouts b told total s f → (n p : ℕ) → slice_get told n ≡ Some p → (o : Object ℕ) × (slice_get b.table.objects p ≡ Some o)
 object_there layouts b told total s f progress n p e =
     let has = progress.lists.has n p e in
     let held = progress.holds.there.0.objects.placed p has.0 has.1.0 in
@@ -67,7 +67,7 @@ number_told told n below = elim ((slice_get_cases told n).1) [
 ]
 
 module _ (layouts : Layouts) (b : Basis ℕ) (before : List ℕ) (start : ℕ) where
-  pub round_begin : (s : StoreView ℕ) (f : FoundParts) (lines : List ObjectLine) → lines ≡ [] → Progress layouts b before start s f → Round layouts b before start 0 s f lines
+  pub round_begin : (s : StoreView ℕ) (f : FoundHandles) (lines : List ObjectLine) → lines ≡ [] → ImageProgress layouts b before start s f → Round layouts b before start 0 s f lines
   round_begin s f lines empty progress = record {
     told = before;
     kept = keeps_itself before;
@@ -83,8 +83,8 @@ module _ (layouts : Layouts) (b : Basis ℕ) (before : List ℕ) (start : ℕ) w
       nothing [] = omega arith
       nothing (p ∷ ps) = omega arith
 
-  module _ (number : ℕ) (s : StoreView ℕ) (f : FoundParts) (lines : List ObjectLine) (round : Round layouts b before start number s f lines) (p : ℕ) (there : slice_get round.told number ≡ Some p) (o : Object ℕ) (object_is : slice_get b.table.objects p ≡ Some o) where
-    pub round_reading : IsReading b round.told number o
+  module _ (number : ℕ) (s : StoreView ℕ) (f : FoundHandles) (lines : List ObjectLine) (round : Round layouts b before start number s f lines) (p : ℕ) (there : slice_get round.told number ≡ Some p) (o : Object ℕ) (object_is : slice_get b.table.objects p ≡ Some o) where
+    pub round_reading : IsNumberedObject b round.told number o
     round_reading = record { position = p; there = there; object_is = object_is }
 
     counted : (told : List ℕ) → slice_get told number ≡ Some p → take number told ≡ take number round.told → start + sum_by (held_at b) (take (number + 1) told) ≡ round.total + values_count (object_values o)
@@ -96,8 +96,8 @@ module _ (layouts : Layouts) (b : Basis ℕ) (before : List ℕ) (start : ℕ) w
         let total = round.total_is in
         omega (arith, more, one, first, total)
 
-    pub round_step : (new : StoreView ℕ) (after : FoundParts) (l : ObjectLine) (more : List ObjectLine) → more ≡ lines ++ l ∷ []
-        → GoesOn layouts b round.told (round.total + values_count (object_values o)) new after (λ then. SaysObject b.table.types then o l) → Round layouts b before start (number + 1) new after more
+    pub round_step : (new : StoreView ℕ) (after : FoundHandles) (l : ObjectLine) (more : List ObjectLine) → more ≡ lines ++ l ∷ []
+        → ImageGoesOn layouts b round.told (round.total + values_count (object_values o)) new after (λ then. SaysObject b.table.types then o l) → Round layouts b before start (number + 1) new after more
     round_step new after l more is next = record {
       told = next.told;
       kept = keeps_twice before round.told next.told round.kept next.kept;
@@ -125,7 +125,7 @@ module _ (layouts : Layouts) (b : Basis ℕ) (before : List ℕ) (start : ℕ) w
               subst (λ (x : Object ℕ). SaysObject b.table.types next.told x k) object_same (subst (SaysObject b.table.types next.told o) same next.done)
         ]
 
-    pub round_refused : {X Y : Type 0} (why : CollectFault) (Went : X → Type 0) (More : Y → Type 0) (now : StoreView ℕ) → AnswersPart layouts b Went (LacksRoots b.table (round.total + values_count (object_values o))) (Err why) now → AnswersPart layouts b More (PassesRoom b start) (Err why) now
+    pub round_refused : {X Y : Type 0} (why : CollectFault) (Went : X → Type 0) (More : Y → Type 0) (now : StoreView ℕ) → AnswersImagePart layouts b Went (LacksRoots b.table (round.total + values_count (object_values o))) (Err why) now → AnswersImagePart layouts b More (ImagePassesRoom b start) (Err why) now
     round_refused fault.RootsFull Went More now full = (
       record {
         part = round.told;
@@ -141,7 +141,7 @@ module _ (layouts : Layouts) (b : Basis ℕ) (before : List ℕ) (start : ℕ) w
     round_refused fault.Memory Went More now stopped = stopped
 
   -- all objects were taken
-  pub round_end : (number : ℕ) (s : StoreView ℕ) (f : FoundParts) (lines : List ObjectLine) → (round : Round layouts b before start number s f lines) → length round.told ≤ number → Ended layouts b before start s f lines
+  pub round_end : (number : ℕ) (s : StoreView ℕ) (f : FoundHandles) (lines : List ObjectLine) → (round : Round layouts b before start number s f lines) → length round.told ≤ number → HasAllLines layouts b before start s f lines
   round_end number s f lines round past = record {
     told = round.told;
     kept = round.kept;

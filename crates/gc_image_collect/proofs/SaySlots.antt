@@ -10,7 +10,7 @@ use Rattle.gc_model.specs.Holds.{Holds, HoldsTable, Placing}
 use Rattle.gc_model.specs.Reach.{slot_references, by_start}
 use Rattle.gc_model.proofs.Members.{among_map, get_contains}
 use Rattle.gc_model.specs.Stores.{StoreView}
-use Rattle.gc_model.specs.Table.{Slot, Table, empty_slot}
+use Rattle.gc_model.specs.Table.{Slot, Table, null_slot}
 use Rattle.gc_model.specs.Values.{Reference, null, at}
 use Rattle.gc_model.proofs.Lists.{slice_get-push_cases, slice_get-push_old, slice_get-push_new}
 use Rattle.gc_model.proofs.Words.{word_names}
@@ -24,7 +24,7 @@ use Rattle.gc_paths.specs.Progress.{Basis}
 use Rattle.gc_image.specs.declared.image.GlobalLine.{GlobalLine}
 use Rattle.gc_image_collect.specs.declared.globals.GlobalRead.{GlobalRead}
 use Rattle.gc_image_collect.specs.GlobalSteps.{AddsLine, GlobalsSaid, IsRead, IsSaid, IsUnset, MoreLines}
-use Rattle.gc_image_collect.specs.Progress.{Keeps}
+use Rattle.gc_image_collect.specs.Progress.{KeepsNumbered}
 use Rattle.gc_image_collect.specs.Steps.{LeadsOn}
 use Rattle.gc_image_collect.proofs.FirstValues.{says_kept}
 
@@ -45,7 +45,7 @@ pub read_there : (layouts : Layouts) (s : StoreView ℕ) (t t' : Table ℕ) (pla
 read_there layouts s t t' place holds holds' slot read is = record { class = is.class; stands = stands_there layouts s t t' place holds holds' read.handle slot.reference is.stands }
 
 module _ (layouts : Layouts) (s : StoreView ℕ) (t : Table ℕ) (place : Placing) (holds : Holds layouts s t place) (slot : Slot) (read : GlobalRead) (is : IsRead s t slot read) where
-  pub unset_empty : IsUnset read true → slot ≡ empty_slot
+  pub unset_empty : IsUnset read true → slot ≡ null_slot
   unset_empty unset = λ i. record { class = (sym is.class ∙ unset.0) i; reference = is_null i }
     where
       is_null : slot.reference ≡ null
@@ -55,14 +55,14 @@ module _ (layouts : Layouts) (s : StoreView ℕ) (t : Table ℕ) (place : Placin
   no_null None stands = refl
   no_null (Some h) named = absurd (let held = named_held layouts s t place holds h null named in let zero_is = held.1.0 in let some = held.1.1 in omega (arith, zero_is, some))
 
-  pub set_full : IsUnset read false → slot ≡ empty_slot → ⊥
+  pub set_full : IsUnset read false → slot ≡ null_slot → ⊥
   set_full set empty =
       let stands = subst (HandleStands s t read.handle) (ap (λ (x : Slot). x.reference) empty) is.stands in
       set (is.class ∙ ap (λ (x : Slot). x.class) empty, no_null read.handle stands)
 
 -- The lines
 
-said_kept : (before now : List ℕ) → Keeps before now → (globals : List Slot) (line : GlobalLine) → IsSaid before globals line → IsSaid now globals line
+said_kept : (before now : List ℕ) → KeepsNumbered before now → (globals : List Slot) (line : GlobalLine) → IsSaid before globals line → IsSaid now globals line
 said_kept before now keeps globals line said = record { slot = said.slot; there = said.there; says = says_kept before now keeps (slot_value said.slot) line.value said.says; is_set = said.is_set }
 
 pub lines_begin : (told : List ℕ) (globals : List Slot) (lines : List GlobalLine) → lines ≡ [] → GlobalsSaid told 0 globals lines
@@ -76,9 +76,9 @@ lines_begin told globals lines empty = record {
     none : (i : ℕ) → None ≡ slice_get lines i
     none i = sym (ap (λ ls. slice_get ls i) empty)
 
-module _ (before now : List ℕ) (keeps : Keeps before now) (k : ℕ) (globals : List Slot) (old : List GlobalLine) (said : GlobalsSaid before k globals old) (slot : Slot) (there : slice_get globals k ≡ Some slot) where
+module _ (before now : List ℕ) (keeps : KeepsNumbered before now) (k : ℕ) (globals : List Slot) (old : List GlobalLine) (said : GlobalsSaid before k globals old) (slot : Slot) (there : slice_get globals k ≡ Some slot) where
   -- the global has no line
-  passed : slot ≡ empty_slot → GlobalsSaid now (k + 1) globals old
+  passed : slot ≡ null_slot → GlobalsSaid now (k + 1) globals old
   passed empty = record {
     said = λ i line e. said_kept before now keeps globals line (said.said i line e);
     below = λ i line e. let under = said.below i line e in omega (arith, under);
@@ -108,7 +108,7 @@ module _ (before now : List ℕ) (keeps : Keeps before now) (k : ℕ) (globals :
       | inr (at_end, same) ↦ let is : k ≡ line.index = ap (λ (l : GlobalLine). l.index) same in omega (arith, is)
     ]
 
-    unsaid_more : (n : ℕ) (w : Slot) → n < k + 1 → slice_get globals n ≡ Some w → ((i : ℕ) (line : GlobalLine) → slice_get new i ≡ Some line → ¬ (line.index ≡ n)) → w ≡ empty_slot
+    unsaid_more : (n : ℕ) (w : Slot) → n < k + 1 → slice_get globals n ≡ Some w → ((i : ℕ) (line : GlobalLine) → slice_get new i ≡ Some line → ¬ (line.index ≡ n)) → w ≡ null_slot
     unsaid_more n w under at_w none = elim (cases_eq n k) [
       | inl same ↦ absurd (none (length old) added (ap (λ ls. slice_get ls (length old)) more.is ∙ slice_get-push_new old added) (sym same))
       | inr other ↦ said.unsaid n w (omega (arith, under, other)) at_w (λ i line e. none i line (ap (λ ls. slice_get ls i) more.is ∙ slice_get-push_old old added i line e))

@@ -20,26 +20,26 @@ use Rattle.gc_image.specs.declared.image.ImageValue.TheVariants as image_value
 use Rattle.gc_image.specs.Images.{IsGlobal}
 use Rattle.gc_image_collect.specs.declared.fault.CollectFault.{CollectFault}
 use Rattle.gc_image_collect.specs.declared.fault.CollectFault.TheVariants as fault
-use Rattle.gc_image_collect.specs.Parts.{FoundParts, SameFound, MoreFound, Numbers}
-use Rattle.gc_image_collect.specs.Progress.{Progress, Keeps, GoesOn, AnswersPart, SaysValue}
-use Rattle.gc_image_collect.specs.Steps.{TakesObject, LeadsOn}
+use Rattle.gc_image_collect.specs.Parts.{FoundHandles, SameFound, MoreFound, NumbersObject}
+use Rattle.gc_image_collect.specs.Progress.{ImageProgress, KeepsNumbered, ImageGoesOn, AnswersImagePart, SaysValue}
+use Rattle.gc_image_collect.specs.Steps.{MakesImageReference, LeadsOn}
 
-pub keeps_itself : (told : List ℕ) → Keeps told told
+pub keeps_itself : (told : List ℕ) → KeepsNumbered told told
 keeps_itself told n p e = e
 
-pub keeps_more : (told : List ℕ) (x : ℕ) → Keeps told (told ++ x ∷ [])
+pub keeps_more : (told : List ℕ) (x : ℕ) → KeepsNumbered told (told ++ x ∷ [])
 keeps_more told x n p e = slice_get-push_old told x n p e
 
-pub keeps_twice : (a b c : List ℕ) → Keeps a b → Keeps b c → Keeps a c
+pub keeps_twice : (a b c : List ℕ) → KeepsNumbered a b → KeepsNumbered b c → KeepsNumbered a c
 keeps_twice a b c first second n p e = second n p (first n p e)
 
 -- the value at a key where one is put in
 put_new : (word : ℕ) (x other : Option ℕ) → cond (nat_eq word word) x other ≡ x
 put_new word x other = ap (λ b. cond b x other) (eq-eqb word word refl)
 
-module _ {D : Type 0} (layouts : Layouts) (b : Basis D) (told : List ℕ) (count : ℕ) (s : StoreView D) (old : FoundParts) (progress : Progress layouts b told count s old) where
+module _ {D : Type 0} (layouts : Layouts) (b : Basis D) (told : List ℕ) (count : ℕ) (s : StoreView D) (old : FoundHandles) (progress : ImageProgress layouts b told count s old) where
   -- what was found is the same
-  pub same_progress : (new : FoundParts) → SameFound old new → Progress layouts b told count s new
+  pub same_progress : (new : FoundHandles) → SameFound old new → ImageProgress layouts b told count s new
   same_progress new same = record {
     holds = progress.holds;
     lists = record {
@@ -52,7 +52,7 @@ module _ {D : Type 0} (layouts : Layouts) (b : Basis D) (told : List ℕ) (count
     reached = progress.reached;
   }
 
-  module _ (p word : ℕ) (h : GcRootIndex) (new : FoundParts) (placed : b.place p ≡ Some word) (unknown : old.number word ≡ None) (named : NamesReference s progress.holds.now h (at p)) (global : IsGlobal b.table p) (more : MoreFound old new word h) where
+  module _ (p word : ℕ) (h : GcRootIndex) (new : FoundHandles) (placed : b.place p ≡ Some word) (unknown : old.number word ≡ None) (named : NamesReference s progress.holds.now h (at p)) (global : IsGlobal b.table p) (more : MoreFound old new word h) where
     named_more : (n q : ℕ) (g : GcRootIndex) → slice_get (told ++ p ∷ []) n ≡ Some q → slice_get (old.handles ++ h ∷ []) n ≡ Some g → NamesReference s progress.holds.now g (at q)
     named_more n q g at_told at_handles = elim (slice_get-push_cases told p n q at_told) [
       | inl old_q ↦ elim (slice_get-push_cases old.handles h n g at_handles) [
@@ -105,7 +105,7 @@ module _ {D : Type 0} (layouts : Layouts) (b : Basis D) (told : List ℕ) (count
         let word_is : has.0 ≡ word = same_Some has.0 word (sym has.1.0 ∙ placed) in
         none-some index.0 (sym unknown ∙ ap old.number (sym word_is) ∙ has.1.1)
 
-    pub progress_more : Progress layouts b (told ++ p ∷ []) count s new
+    pub progress_more : ImageProgress layouts b (told ++ p ∷ []) count s new
     progress_more = record {
       holds = progress.holds;
       lists = record {
@@ -122,12 +122,12 @@ module _ {D : Type 0} (layouts : Layouts) (b : Basis D) (told : List ℕ) (count
     }
 
   -- the object has that number now
-  pub object_taken : (p word number : ℕ) (h : GcRootIndex) (new : FoundParts) → b.place p ≡ Some word → NamesReference s progress.holds.now h (at p) → IsGlobal b.table p → Numbers old new word h number
-      → GoesOn layouts b told count s new (λ then. slice_get then number ≡ Some p)
+  pub object_taken : (p word number : ℕ) (h : GcRootIndex) (new : FoundHandles) → b.place p ≡ Some word → NamesReference s progress.holds.now h (at p) → IsGlobal b.table p → NumbersObject old new word h number
+      → ImageGoesOn layouts b told count s new (λ then. slice_get then number ≡ Some p)
   object_taken p word number h new placed named global numbers = by (old.number word) refl numbers
     where
       by : (k : Option ℕ) → old.number word ≡ k → MatchOption k (MoreFound old new word h × (number ≡ length old.handles)) (λ known. SameFound old new × (number ≡ known))
-          → GoesOn layouts b told count s new (λ then. slice_get then number ≡ Some p)
+          → ImageGoesOn layouts b told count s new (λ then. slice_get then number ≡ Some p)
       by None unknown (more, is) = record {
         told = told ++ p ∷ [];
         kept = keeps_more told p;
@@ -144,7 +144,7 @@ module _ {D : Type 0} (layouts : Layouts) (b : Basis D) (told : List ℕ) (count
           }
 
   -- what is done is more than was asked for
-  pub goes_more : (new : FoundParts) (Done More : List ℕ → Type 0) → ((then : List ℕ) → Done then → More then) → GoesOn layouts b told count s new Done → GoesOn layouts b told count s new More
+  pub goes_more : (new : FoundHandles) (Done More : List ℕ → Type 0) → ((then : List ℕ) → Done then → More then) → ImageGoesOn layouts b told count s new Done → ImageGoesOn layouts b told count s new More
   goes_more new Done More more goes = record { told = goes.told; kept = goes.kept; progress = goes.progress; done = more goes.told goes.done }
 
 -- What the words of references say
@@ -182,9 +182,9 @@ object_says then class p number there fits = record {
     same : (k : GcClass) (q : ℕ) → reference class (at p) ≡ reference k (at q) → p ≡ q
     same k q e = cc e
 
-module _ {D : Type 0} (layouts : Layouts) (b : Basis D) (told : List ℕ) (count : ℕ) (s : StoreView D) (old : FoundParts) (progress : Progress layouts b told count s old) (class : GcClass) where
+module _ {D : Type 0} (layouts : Layouts) (b : Basis D) (told : List ℕ) (count : ℕ) (s : StoreView D) (old : FoundHandles) (progress : ImageProgress layouts b told count s old) (class : GcClass) where
   -- a null
-  pub null_taken : (q : Reference) → q ≡ null → GoesOn layouts b told count s old (λ then. SaysValue then (reference class q) (image_value.Ref class image_reference.Null))
+  pub null_taken : (q : Reference) → q ≡ null → ImageGoesOn layouts b told count s old (λ then. SaysValue then (reference class q) (image_value.Ref class image_reference.Null))
   null_taken q is = record {
     told = told;
     kept = keeps_itself told;
@@ -193,8 +193,8 @@ module _ {D : Type 0} (layouts : Layouts) (b : Basis D) (told : List ℕ) (count
   }
 
   -- what a handle names
-  pub reference_taken : (q : Reference) (h : GcRootIndex) (new : FoundParts) (x : ImageReference) → NamesReference s progress.holds.now h q → LeadsOn b (reference class q) → TakesObject b.place q h old new x
-      → GoesOn layouts b told count s new (λ then. SaysValue then (reference class q) (image_value.Ref class x))
+  pub reference_taken : (q : Reference) (h : GcRootIndex) (new : FoundHandles) (x : ImageReference) → NamesReference s progress.holds.now h q → LeadsOn b (reference class q) → MakesImageReference b.place q h old new x
+      → ImageGoesOn layouts b told count s new (λ then. SaysValue then (reference class q) (image_value.Ref class x))
   reference_taken null h new x named leads taken = absurd taken
   reference_taken (small n) h new x named leads taken = record {
     told = told;
@@ -211,5 +211,5 @@ module _ {D : Type 0} (layouts : Layouts) (b : Basis D) (told : List ℕ) (count
       (object_taken layouts b told count s old progress p word number h new facts.0 named (leads p (get_contains (at p ∷ []) 0 (at p) refl)) facts.3)
 
 -- only want of memory stops it
-pub memory_stops : {D X : Type 0} (layouts : Layouts) (b : Basis D) (told : List ℕ) (count : ℕ) (s : StoreView D) (old : FoundParts) → Progress layouts b told count s old → (Went : X → Type 0) (Full : Type 0) (why : CollectFault) → why ≡ fault.Memory → AnswersPart layouts b Went Full (Err why) s
-memory_stops layouts b told count s old progress Went Full why is = subst (λ (w : CollectFault). AnswersPart layouts b Went Full (Err w) s) (sym is) (count, progress.holds)
+pub memory_stops : {D X : Type 0} (layouts : Layouts) (b : Basis D) (told : List ℕ) (count : ℕ) (s : StoreView D) (old : FoundHandles) → ImageProgress layouts b told count s old → (Went : X → Type 0) (Full : Type 0) (why : CollectFault) → why ≡ fault.Memory → AnswersImagePart layouts b Went Full (Err why) s
+memory_stops layouts b told count s old progress Went Full why is = subst (λ (w : CollectFault). AnswersImagePart layouts b Went Full (Err w) s) (sym is) (count, progress.holds)

@@ -22,13 +22,13 @@ use Rattle.gc_store.specs.Roots.{NamesReference, HasValue, CanRead, handle_of}
 use Rattle.gc_store.specs.Stores.{IsSameStore}
 use Rattle.gc_store.specs.Values.{ReadsValue, IsLive, NamesLive, RawStands}
 use Rattle.gc_paths.specs.Answers.{LacksRoots}
-use Rattle.gc_paths.specs.Progress.{Basis, Grown, Stopped, value_count}
+use Rattle.gc_paths.specs.Progress.{Basis, Grown, StoppedSearch, present_in_value}
 use Rattle.gc_paths.proofs.Growing.{grown_push, grown_objects, full_lacks, free_drops, named_pushed, named_same, new_named}
 use Rattle.gc_image_collect.specs.declared.fault.CollectFault.{CollectFault}
 use Rattle.gc_image_collect.specs.declared.fault.CollectFault.TheVariants as collect
-use Rattle.gc_image_collect.specs.Parts.{FoundParts}
-use Rattle.gc_image_collect.specs.Progress.{Progress, AnswersPart}
-use Rattle.gc_image_collect.specs.Steps.{IsReading, CanTake, LeadsOn, refused}
+use Rattle.gc_image_collect.specs.Parts.{FoundHandles}
+use Rattle.gc_image_collect.specs.Progress.{ImageProgress, AnswersImagePart}
+use Rattle.gc_image_collect.specs.Steps.{IsNumberedObject, CanTakeObjectLine, LeadsOn, collect_fault}
 
 pub values_among : (vs : List Value) (i : ℕ) (v : Value) (r : Reference) → slice_get vs i ≡ Some v → Contains (value_references v) r → Contains (flat_map value_references vs) r
 values_among [] i v r e c = absurd (none-some v e)
@@ -47,7 +47,7 @@ raw_live_in layouts s t hold v (raw.Cont cont) stands = tt
 raw_live_in layouts s t hold v (raw.Ref class None) stands = tt
 raw_live_in layouts s t hold v (raw.Ref class (Some h)) stands = record { table = t; holds = hold; root = stands.root; named = stands.named }
 
-module _ {D : Type 0} (layouts : Layouts) (b : Basis D) (told : List ℕ) (count : ℕ) (s : StoreView D) (f : FoundParts) (progress : Progress layouts b told count s f) where
+module _ {D : Type 0} (layouts : Layouts) (b : Basis D) (told : List ℕ) (count : ℕ) (s : StoreView D) (f : FoundHandles) (progress : ImageProgress layouts b told count s f) where
   abbrev now : Table D
   now = progress.holds.now
 
@@ -59,7 +59,7 @@ module _ {D : Type 0} (layouts : Layouts) (b : Basis D) (told : List ℕ) (count
 
   module _ (new : StoreView D) (same : IsSameStore s new) where
     -- one more root stands
-    abbrev pub progress_pushed : (q : Reference) → roots_full now ≡ false → HoldsThere layouts new (push q now) b.place b.account → Progress layouts b told (count + 1) new f
+    abbrev pub progress_pushed : (q : Reference) → roots_full now ≡ false → HoldsThere layouts new (push q now) b.place b.account → ImageProgress layouts b told (count + 1) new f
     progress_pushed q free there = record {
       holds = record { now = push q now; grown = grown_push b.table now count q progress.holds.grown (free_drops b.table now count progress.holds.grown free); there = there };
       lists = record {
@@ -73,7 +73,7 @@ module _ {D : Type 0} (layouts : Layouts) (b : Basis D) (told : List ℕ) (count
     }
 
     -- or none more
-    abbrev pub progress_moved : (count' : ℕ) → count ≡ count' → HoldsThere layouts new now b.place b.account → Progress layouts b told count' new f
+    abbrev pub progress_moved : (count' : ℕ) → count ≡ count' → HoldsThere layouts new now b.place b.account → ImageProgress layouts b told count' new f
     progress_moved count' is there = record {
       holds = record { now = now; grown = subst (Grown b.table now) is progress.holds.grown; there = there };
       lists = record {
@@ -87,11 +87,11 @@ module _ {D : Type 0} (layouts : Layouts) (b : Basis D) (told : List ℕ) (count
     }
 
   -- what the values of an object with a number name is reached
-  pub leads_on : (number : ℕ) (o : Object D) (reading : IsReading b told number o) (index : ℕ) (v : Value) → slice_get (object_values o) index ≡ Some v → LeadsOn b v
+  pub leads_on : (number : ℕ) (o : Object D) (reading : IsNumberedObject b told number o) (index : ℕ) (v : Value) → slice_get (object_values o) index ≡ Some v → LeadsOn b v
   leads_on number o reading index v value_at p c =
       by_step (progress.reached number reading.position reading.there) (record { object = o; there = reading.object_is; among = values_among (object_values o) index v (at p) value_at c })
 
-  module _ (number : ℕ) (o : Object D) (reading : IsReading b told number o) (h : GcRootIndex) (at_h : slice_get f.handles number ≡ Some h) where
+  module _ (number : ℕ) (o : Object D) (reading : IsNumberedObject b told number o) (h : GcRootIndex) (at_h : slice_get f.handles number ≡ Some h) where
     pub names_one : NamesReference s now h (at reading.position)
     names_one = progress.lists.named number reading.position h reading.there at_h
 
@@ -106,22 +106,22 @@ module _ {D : Type 0} (layouts : Layouts) (b : Basis D) (told : List ℕ) (count
       reads_one = record { table = now; holds = (b.place, progress.holds.there.0); value = v; has = has_value }
 
 -- a value that was read
-pub record Read {D : Type 0} (layouts : Layouts) (b : Basis D) (told : List ℕ) (count : ℕ) (s : StoreView D) (f : FoundParts) (r : RawValue) (v : Value) : Type 0 where
-  pub progress : Progress layouts b told count s f
+pub record Read {D : Type 0} (layouts : Layouts) (b : Basis D) (told : List ℕ) (count : ℕ) (s : StoreView D) (f : FoundHandles) (r : RawValue) (v : Value) : Type 0 where
+  pub progress : ImageProgress layouts b told count s f
   pub stands : RawStands s progress.holds.now r v
 
-module _ {D : Type 0} (layouts : Layouts) (b : Basis D) (told : List ℕ) (count : ℕ) (s : StoreView D) (f : FoundParts) (progress : Progress layouts b told count s f) (new : StoreView D) (same : IsSameStore s new) where
+module _ {D : Type 0} (layouts : Layouts) (b : Basis D) (told : List ℕ) (count : ℕ) (s : StoreView D) (f : FoundHandles) (progress : ImageProgress layouts b told count s f) (new : StoreView D) (same : IsSameStore s new) where
   abbrev table : Table D
   table = progress.holds.now
 
   -- no root was pushed
-  plain_read : (v : Value) → value_count v ≡ 0 → (r : RawValue) → RawStands new table r v → HoldsThere layouts new table b.place b.account → Read layouts b told (count + value_count v) new f r v
+  plain_read : (v : Value) → present_in_value v ≡ 0 → (r : RawValue) → RawStands new table r v → HoldsThere layouts new table b.place b.account → Read layouts b told (count + present_in_value v) new f r v
   plain_read v none r stands there = record {
-    progress = progress_moved layouts b told count s f progress new same (count + value_count v) (omega (arith, none)) there;
+    progress = progress_moved layouts b told count s f progress new same (count + present_in_value v) (omega (arith, none)) there;
     stands = stands;
   }
 
-  pub was_read : (v : Value) (r : RawValue) → ReadsValue layouts table b.account v (Ok r) new → HoldsThere layouts new (after_read v table) b.place b.account → Read layouts b told (count + value_count v) new f r v
+  pub was_read : (v : Value) (r : RawValue) → ReadsValue layouts table b.account v (Ok r) new → HoldsThere layouts new (after_read v table) b.place b.account → Read layouts b told (count + present_in_value v) new f r v
   was_read (numeric i32 n) r reads there = plain_read (numeric i32 n) refl r (subst (λ (x : RawValue). RawStands new table x (numeric i32 n)) (sym reads.1.0.1.0) (ap (numeric i32) reads.1.0.1.1)) there
   was_read (numeric i64 n) r reads there = plain_read (numeric i64 n) refl r (subst (λ (x : RawValue). RawStands new table x (numeric i64 n)) (sym reads.1.0.1.0) (ap (numeric i64) reads.1.0.1.1)) there
   was_read (numeric f32 n) r reads there = plain_read (numeric f32 n) refl r (subst (λ (x : RawValue). RawStands new table x (numeric f32 n)) (sym reads.1.0) refl) there
@@ -141,7 +141,7 @@ module _ {D : Type 0} (layouts : Layouts) (b : Basis D) (told : List ℕ) (count
         (record { root = at q; named = new_named layouts s table b.place progress.holds.there.0 new (at q) (handle_of new (length table.scoped) table.drops) refl; is = refl });
   }
 
-  makes_count : (v : Value) → makes_root v ≡ true → 1 ≡ value_count v
+  makes_count : (v : Value) → makes_root v ≡ true → 1 ≡ present_in_value v
   makes_count (numeric kind n) e = absurd (cc)
   makes_count (function f) e = absurd (cc)
   makes_count (continuation cont) e = absurd (cc)
@@ -150,30 +150,30 @@ module _ {D : Type 0} (layouts : Layouts) (b : Basis D) (told : List ℕ) (count
   makes_count (reference class (at p)) e = refl
 
   -- or none was read
-  pub read_refused : {X : Type 0} (v : Value) (why : RootFault) (Went : X → Type 0) → ReadsValue layouts table b.account v (Err why) new → new ≡ s → AnswersPart layouts b Went (LacksRoots b.table (count + value_count v)) (Err (refused why)) new
+  pub read_refused : {X : Type 0} (v : Value) (why : RootFault) (Went : X → Type 0) → ReadsValue layouts table b.account v (Err why) new → new ≡ s → AnswersImagePart layouts b Went (LacksRoots b.table (count + present_in_value v)) (Err (collect_fault why)) new
   read_refused v fault.WrongStore Went never is = absurd never
   read_refused v fault.Unrooted Went never is = absurd never
   read_refused v fault.RootsFull Went full is = (
     subst (λ (n : ℕ). LacksRoots b.table (count + n)) (makes_count v full.0) (full_lacks b.table table count progress.holds.grown full.1.0),
-    subst (Stopped layouts b) (sym is) (count, progress.holds),
+    subst (StoppedSearch layouts b) (sym is) (count, progress.holds),
   )
-  read_refused v fault.Memory Went memory is = subst (Stopped layouts b) (sym is) (count, progress.holds)
+  read_refused v fault.Memory Went memory is = subst (StoppedSearch layouts b) (sym is) (count, progress.holds)
 
 -- a part that can't be refused for want of room
-pub never_full : {D X : Type 0} (layouts : Layouts) (b : Basis D) (s : StoreView D) (Went : X → Type 0) (Full : Type 0) (result : Result X CollectFault) → AnswersPart layouts b Went ⊥ result s → AnswersPart layouts b Went Full result s
+pub never_full : {D X : Type 0} (layouts : Layouts) (b : Basis D) (s : StoreView D) (Went : X → Type 0) (Full : Type 0) (result : Result X CollectFault) → AnswersImagePart layouts b Went ⊥ result s → AnswersImagePart layouts b Went Full result s
 never_full layouts b s Went Full (Ok x) went = went
 never_full layouts b s Went Full (Err collect.RootsFull) full = absurd full.0
 never_full layouts b s Went Full (Err collect.Memory) stopped = stopped
 
 -- an object with a number has a handle
-module _ {D : Type 0} (layouts : Layouts) (s : StoreView D) (f : FoundParts) (number : ℕ) where
-  pub take_inside : CanTake D layouts s f number → number < length f.handles
+module _ {D : Type 0} (layouts : Layouts) (s : StoreView D) (f : FoundHandles) (number : ℕ) where
+  pub take_inside : CanTakeObjectLine D layouts s f number → number < length f.handles
   take_inside can =
       let inside = slice_get_within can.told number can.reading.position can.reading.there in
       let counts = can.progress.lists.same_count in
       omega (arith, inside, counts)
 
-  pub take_live : (can : CanTake D layouts s f number) (h : GcRootIndex) → slice_get f.handles number ≡ Some h → IsLive D layouts s h
+  pub take_live : (can : CanTakeObjectLine D layouts s f number) (h : GcRootIndex) → slice_get f.handles number ≡ Some h → IsLive D layouts s h
   take_live can h at_h = record {
     table = can.progress.holds.now;
     holds = (can.basis.place, can.progress.holds.there.0);

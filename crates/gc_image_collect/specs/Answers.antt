@@ -14,28 +14,28 @@ use Rattle.gc_image_collect.specs.declared.fault.CollectFault.TheVariants as fau
 
 -- How many roots a call pushes that looks at each global and at each reference of the objects that these reach: one for each
 -- that isn't null.
-pub record NeedsRoots {D : Type 0} (t : Table D) (count : ℕ) : Type 0 where
+pub record NeedsImageRoots {D : Type 0} (t : Table D) (count : ℕ) : Type 0 where
   pub reached : List ℕ
   pub are : AreAll (IsGlobal t) reached
   pub count_is : count ≡ present_count (slot_references t.globals) + sum_by (λ p. held_count (slice_get t.objects p)) reached
 
 -- the lines are what the globals reach, where no object has a function or a continuation, and there is room for the roots that this needs
-pub record Collects (t : Table ℕ) (collected : Collected) : Type 0 where
+pub record CollectsImage (t : Table ℕ) (collected : Collected) : Type 0 where
   pub collection : HasPlainValues t → IsCollection t collected
   pub count : ℕ
-  pub needs : NeedsRoots t count
+  pub needs : NeedsImageRoots t count
   pub room : ¬ LacksRoots t count
 
 -- there is no room for them
-abbrev pub IsFull : {D : Type 0} → Table D → Type 0
-IsFull t = (count : ℕ) × (NeedsRoots t count × LacksRoots t count)
+abbrev pub LacksImageRoots : {D : Type 0} → Table D → Type 0
+LacksImageRoots t = (count : ℕ) × (NeedsImageRoots t count × LacksRoots t count)
 
 -- why nothing is collected
 abbrev pub RefusesCollection : {D : Type 0} → Table D → CollectFault → Type 0
-RefusesCollection t fault.RootsFull = IsFull t
+RefusesCollection t fault.RootsFull = LacksImageRoots t
 RefusesCollection t fault.Memory = Unit {0}
 
 -- Roots were pushed and are gone. Nothing else changed.
-pub record OnlyPushed {D : Type 0} (layouts : Layouts) (t : Table D) (a : Account) (new : StoreView D) : Type 0 where
+pub record DropsImageRoots {D : Type 0} (layouts : Layouts) (t : Table D) (a : Account) (new : StoreView D) : Type 0 where
   pub more : List Push
   pub holds : HoldsAccount layouts new (record t { pushes = t.pushes ++ more; drops = drops_after t.drops more }) a

@@ -3,7 +3,7 @@ use Rattle.std.specs.Prelude.{◌≡◌, ◌⊎◌, ◌<◌, ◌+◌, ℕ, Bool,
 use Rattle.gc_types.specs.declared.kind.Layouts.{Layouts}
 use Rattle.gc_model.specs.Stores.{StoreView}
 use Rattle.gc_owner.specs.declared.entry.GcClass.TheVariants as class
-use Rattle.gc_model.specs.Table.{Table, Slot, empty_slot, global_count}
+use Rattle.gc_model.specs.Table.{Table, Slot, null_slot, global_count}
 use Rattle.gc_policy.specs.Accounts.{Account, HoldsAccount}
 use Rattle.gc_store.specs.declared.globals.SlotFault.{SlotFault}
 use Rattle.gc_store.specs.declared.globals.SlotFault.TheVariants as slot_fault
@@ -12,14 +12,14 @@ use Rattle.gc_values.specs.declared.root.RootFault.TheVariants as root
 use Rattle.gc_store.specs.Slots.{HandleStands, slot_value}
 use Rattle.gc_store.specs.Values.{ReadsValue}
 use Rattle.gc_paths.specs.Answers.{LacksRoots}
-use Rattle.gc_paths.specs.Progress.{Basis, Grown, value_count}
+use Rattle.gc_paths.specs.Progress.{Basis, Grown, present_in_value}
 use Rattle.gc_image.specs.declared.image.GlobalLine.{GlobalLine}
 use Rattle.gc_image.specs.declared.image.ImageValue.{ImageValue}
 use Rattle.gc_image_collect.specs.declared.fault.CollectFault.{CollectFault}
 use Rattle.gc_image_collect.specs.declared.fault.CollectFault.TheVariants as fault
 use Rattle.gc_image_collect.specs.declared.globals.GlobalRead.{GlobalRead}
-use Rattle.gc_image_collect.specs.Progress.{Progress, SaysValue}
-use Rattle.gc_image_collect.specs.Parts.{FoundParts}
+use Rattle.gc_image_collect.specs.Progress.{ImageProgress, SaysValue}
+use Rattle.gc_image_collect.specs.Parts.{FoundHandles}
 
 -- why nothing is collected where a global isn't read
 abbrev pub slot_refused : SlotFault → CollectFault
@@ -31,7 +31,7 @@ slot_refused slot_fault.Memory = fault.Memory
 
 -- how many of a global's references aren't null, and of those of many
 abbrev pub slot_count : Slot → ℕ
-slot_count slot = value_count (slot_value slot)
+slot_count slot = present_in_value (slot_value slot)
 
 abbrev pub slots_count : List Slot → ℕ
 slots_count slots = sum_by slot_count slots
@@ -73,23 +73,23 @@ pub record MoreLines (told : List ℕ) (old new : List GlobalLine) (index : ℕ)
   pub value : ImageValue
   pub is : new ≡ old ++ record { index = index; value = value } ∷ []
   pub says : SaysValue told (slot_value slot) value
-  pub is_set : ¬ (slot ≡ empty_slot)
+  pub is_set : ¬ (slot ≡ null_slot)
 
 abbrev pub AddsLine : List ℕ → List GlobalLine → List GlobalLine → ℕ → Slot → Type 0
-AddsLine told old new index slot = ((slot ≡ empty_slot) × (new ≡ old)) ⊎ MoreLines told old new index slot
+AddsLine told old new index slot = ((slot ≡ null_slot) × (new ≡ old)) ⊎ MoreLines told old new index slot
 
 -- the line says the global of its index
 pub record IsSaid (told : List ℕ) (globals : List Slot) (line : GlobalLine) : Type 0 where
   pub slot : Slot
   pub there : slice_get globals line.index ≡ Some slot
   pub says : SaysValue told (slot_value slot) line.value
-  pub is_set : ¬ (slot ≡ empty_slot)
+  pub is_set : ¬ (slot ≡ null_slot)
 
 -- the first globals have their lines
 pub record GlobalsSaid (told : List ℕ) (k : ℕ) (globals : List Slot) (lines : List GlobalLine) : Type 0 where
   pub said : (i : ℕ) (line : GlobalLine) → slice_get lines i ≡ Some line → IsSaid told globals line
   pub below : (i : ℕ) (line : GlobalLine) → slice_get lines i ≡ Some line → line.index < k
-  pub unsaid : (n : ℕ) (slot : Slot) → n < k → slice_get globals n ≡ Some slot → ((i : ℕ) (line : GlobalLine) → slice_get lines i ≡ Some line → ¬ (line.index ≡ n)) → slot ≡ empty_slot
+  pub unsaid : (n : ℕ) (slot : Slot) → n < k → slice_get globals n ≡ Some slot → ((i : ℕ) (line : GlobalLine) → slice_get lines i ≡ Some line → ¬ (line.index ≡ n)) → slot ≡ null_slot
   pub rising : (i : ℕ) (one next : GlobalLine) → slice_get lines i ≡ Some one → slice_get lines (i + 1) ≡ Some next → one.index < next.index
 
 -- a read global is null of class Any
@@ -104,8 +104,8 @@ pub record AllRead (s : StoreView ℕ) (now : Table ℕ) (globals : List Slot) (
   pub each : (i : ℕ) (slot : Slot) (read : GlobalRead) → slice_get globals i ≡ Some slot → slice_get reads i ≡ Some read → IsRead s now slot read
 
 -- in some search, all globals were read
-pub record CanSay (layouts : Layouts) (s : StoreView ℕ) (f : FoundParts) (reads : List GlobalRead) : Type 0 where
+pub record CanSay (layouts : Layouts) (s : StoreView ℕ) (f : FoundHandles) (reads : List GlobalRead) : Type 0 where
   pub basis : Basis ℕ
   pub count : ℕ
-  pub progress : Progress layouts basis [] count s f
+  pub progress : ImageProgress layouts basis [] count s f
   pub all : AllRead s progress.holds.now basis.table.globals reads

@@ -6,26 +6,26 @@ use Rattle.gc_values.specs.declared.root.GcRootIndex.{GcRootIndex}
 use Rattle.gc_image_collect.specs.declared.found.Found.{Found}
 
 -- handles of the objects by their numbers, and the number of each word
-pub record FoundParts : Type 0 where
+pub record FoundHandles : Type 0 where
   pub handles : List GcRootIndex
   pub number : ℕ → Option ℕ
 
-abbrev pub parts : Found → FoundParts
-parts f = record { handles = f.handles.items; number = get nat_eq f.numbers }
+abbrev pub found_handles : Found → FoundHandles
+found_handles f = record { handles = f.handles.items; number = get nat_eq f.numbers }
 
-abbrev pub empty_parts : FoundParts
-empty_parts = record { handles = []; number = λ word. None }
+abbrev pub empty_found : FoundHandles
+empty_found = record { handles = []; number = λ word. None }
 
-pub record SameFound (old new : FoundParts) : Type 0 where
+pub record SameFound (old new : FoundHandles) : Type 0 where
   pub handles : new.handles ≡ old.handles
   pub number : (word : ℕ) → new.number word ≡ old.number word
 
 -- one more, with the next number
-pub record MoreFound (old new : FoundParts) (word : ℕ) (handle : GcRootIndex) : Type 0 where
+pub record MoreFound (old new : FoundHandles) (word : ℕ) (handle : GcRootIndex) : Type 0 where
   pub handles : new.handles ≡ old.handles ++ handle ∷ []
   pub number : (other : ℕ) → new.number other ≡ (if nat_eq word other then Some (length old.handles) else old.number other)
 
 -- the object with that word has that number, which is the next one where it had none
-abbrev pub Numbers : FoundParts → FoundParts → ℕ → GcRootIndex → ℕ → Type 0
-Numbers old new word handle number =
+abbrev pub NumbersObject : FoundHandles → FoundHandles → ℕ → GcRootIndex → ℕ → Type 0
+NumbersObject old new word handle number =
     MatchOption (old.number word) (MoreFound old new word handle × (number ≡ length old.handles)) (λ known. SameFound old new × (number ≡ known))

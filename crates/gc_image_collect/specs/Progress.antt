@@ -11,47 +11,47 @@ use Rattle.gc_model.specs.Values.{Object, Value, at, reference}
 use Rattle.gc_values.specs.declared.root.GcRootIndex.{GcRootIndex}
 use Rattle.gc_store.specs.Roots.{NamesReference}
 use Rattle.gc_paths.specs.Answers.{LacksRoots, held_count}
-use Rattle.gc_paths.specs.Progress.{Basis, HoldsGrown, Stopped}
+use Rattle.gc_paths.specs.Progress.{Basis, HoldsGrown, StoppedSearch}
 use Rattle.gc_image.specs.declared.image.ImageValue.{ImageValue}
 use Rattle.gc_image.specs.declared.image.ObjectLine.{ObjectLine}
 use Rattle.gc_image.specs.Images.{IsGlobal, placed_object, placed_value}
-use Rattle.gc_image.specs.Text.{FitsObject, FitsValue}
+use Rattle.gc_image.specs.Text.{FitsObject, FitsImageValue}
 use Rattle.gc_image.specs.Well.{HasShape, as_object, as_value, line_values, number_named}
 use Rattle.gc_image_collect.specs.declared.fault.CollectFault.{CollectFault}
 use Rattle.gc_image_collect.specs.declared.fault.CollectFault.TheVariants as fault
 use Rattle.gc_image_collect.specs.Collection.{is_plain}
-use Rattle.gc_image_collect.specs.Parts.{FoundParts}
+use Rattle.gc_image_collect.specs.Parts.{FoundHandles}
 
 -- the objects at these positions have the numbers, each with a handle and by its word
-pub record Lists {D : Type 0} (b : Basis D) (s : StoreView D) (now : Table D) (told : List ℕ) (f : FoundParts) : Type 0 where
+pub record ListsFound {D : Type 0} (b : Basis D) (s : StoreView D) (now : Table D) (told : List ℕ) (f : FoundHandles) : Type 0 where
   pub same_count : length f.handles ≡ length told
   pub named : (n p : ℕ) (h : GcRootIndex) → slice_get told n ≡ Some p → slice_get f.handles n ≡ Some h → NamesReference s now h (at p)
   pub has : (n p : ℕ) → slice_get told n ≡ Some p → (word : ℕ) × ((b.place p ≡ Some word) × (f.number word ≡ Some n))
   pub only : (word n : ℕ) → f.number word ≡ Some n → (p : ℕ) × ((b.place p ≡ Some word) × (slice_get told n ≡ Some p))
 
 -- So far so good: so many roots were pushed, and the objects that have numbers are reached, each once.
-pub record Progress {D : Type 0} (layouts : Layouts) (b : Basis D) (told : List ℕ) (count : ℕ) (s : StoreView D) (f : FoundParts) : Type 0 where
+pub record ImageProgress {D : Type 0} (layouts : Layouts) (b : Basis D) (told : List ℕ) (count : ℕ) (s : StoreView D) (f : FoundHandles) : Type 0 where
   pub holds : HoldsGrown layouts b count s
-  pub lists : Lists b s holds.now told f
+  pub lists : ListsFound b s holds.now told f
   pub distinct : IsDistinct nat_eq told
   pub reached : (n p : ℕ) → slice_get told n ≡ Some p → IsGlobal b.table p
 
 -- what has a number keeps it
-abbrev pub Keeps : List ℕ → List ℕ → Type 0
-Keeps before now = (n p : ℕ) → slice_get before n ≡ Some p → slice_get now n ≡ Some p
+abbrev pub KeepsNumbered : List ℕ → List ℕ → Type 0
+KeepsNumbered before now = (n p : ℕ) → slice_get before n ≡ Some p → slice_get now n ≡ Some p
 
 -- the search went on, and did what it was to do
-pub record GoesOn {D : Type 0} (layouts : Layouts) (b : Basis D) (before : List ℕ) (count : ℕ) (s : StoreView D) (f : FoundParts) (Done : List ℕ → Type 0) : Type 0 where
+pub record ImageGoesOn {D : Type 0} (layouts : Layouts) (b : Basis D) (before : List ℕ) (count : ℕ) (s : StoreView D) (f : FoundHandles) (Done : List ℕ → Type 0) : Type 0 where
   pub told : List ℕ
-  pub kept : Keeps before told
-  pub progress : Progress layouts b told count s f
+  pub kept : KeepsNumbered before told
+  pub progress : ImageProgress layouts b told count s f
   pub done : Done told
 
 -- What a part of the search answers: that it did its part, or why not, where it would push so many roots in all.
-abbrev pub AnswersPart : {D X : Type 0} → Layouts → Basis D → (X → Type 0) → Type 0 → Result X CollectFault → StoreView D → Type 0
-AnswersPart layouts b Went Full (Ok x) s = Went x
-AnswersPart layouts b Went Full (Err fault.RootsFull) s = Full × Stopped layouts b s
-AnswersPart layouts b Went Full (Err fault.Memory) s = Stopped layouts b s
+abbrev pub AnswersImagePart : {D X : Type 0} → Layouts → Basis D → (X → Type 0) → Type 0 → Result X CollectFault → StoreView D → Type 0
+AnswersImagePart layouts b Went Full (Ok x) s = Went x
+AnswersImagePart layouts b Went Full (Err fault.RootsFull) s = Full × StoppedSearch layouts b s
+AnswersImagePart layouts b Went Full (Err fault.Memory) s = StoppedSearch layouts b s
 
 -- positions by numbers, as far as these have some
 abbrev pub Agrees : List ℕ → (ℕ → ℕ) → Type 0
@@ -62,7 +62,7 @@ pub record SaysValue (told : List ℕ) (v : Value) (x : ImageValue) : Type 0 whe
   pub is : is_plain v ≡ true → (position : ℕ → ℕ) → Agrees told position → v ≡ placed_value position (as_value x)
   pub named : (number : ℕ) → number_named x ≡ Some number → number < length told
   pub leads : (class : GcClass) (p : ℕ) → v ≡ reference class (at p) → Contains told p
-  pub fits : FitsValue x
+  pub fits : FitsImageValue x
 
 -- so many words say the first values
 pub record SaysFirst (told : List ℕ) (count : ℕ) (values : List Value) (words : List ImageValue) : Type 0 where
@@ -82,25 +82,25 @@ abbrev pub held_at : {D : Type 0} → Basis D → ℕ → ℕ
 held_at b p = held_count (slice_get b.table.objects p)
 
 -- The search is at its end: each object that has a number has its line, and a root was pushed for each reference.
-pub record Ended (layouts : Layouts) (b : Basis ℕ) (before : List ℕ) (start : ℕ) (s : StoreView ℕ) (f : FoundParts) (lines : List ObjectLine) : Type 0 where
+pub record HasAllLines (layouts : Layouts) (b : Basis ℕ) (before : List ℕ) (start : ℕ) (s : StoreView ℕ) (f : FoundHandles) (lines : List ObjectLine) : Type 0 where
   pub told : List ℕ
-  pub kept : Keeps before told
+  pub kept : KeepsNumbered before told
   pub total : ℕ
-  pub progress : Progress layouts b told total s f
+  pub progress : ImageProgress layouts b told total s f
   pub same_count : length lines ≡ length told
   pub says : (n p : ℕ) (o : Object ℕ) (l : ObjectLine) → slice_get told n ≡ Some p → slice_get lines n ≡ Some l → slice_get b.table.objects p ≡ Some o → SaysObject b.table.types told o l
   pub total_is : total ≡ start + sum_by (held_at b) told
 
 -- some objects that are reached have more references than there is room for
-pub record PassesRoom {D : Type 0} (b : Basis D) (start : ℕ) : Type 0 where
+pub record ImagePassesRoom {D : Type 0} (b : Basis D) (start : ℕ) : Type 0 where
   pub part : List ℕ
   pub distinct : IsDistinct nat_eq part
   pub are : (p : ℕ) → Contains part p → IsGlobal b.table p
   pub lacks : LacksRoots b.table (start + sum_by (held_at b) part)
 
 -- a search has begun
-pub record IsBegun (layouts : Layouts) (s : StoreView ℕ) (f : FoundParts) : Type 0 where
+pub record IsImageBegun (layouts : Layouts) (s : StoreView ℕ) (f : FoundHandles) : Type 0 where
   pub basis : Basis ℕ
   pub told : List ℕ
   pub count : ℕ
-  pub progress : Progress layouts basis told count s f
+  pub progress : ImageProgress layouts basis told count s f

@@ -28,61 +28,61 @@ use Rattle.gc_image.specs.Images.{IsGlobal}
 use Rattle.gc_image.specs.Well.{IsPacked}
 use Rattle.gc_image_collect.specs.declared.fault.CollectFault.{CollectFault}
 use Rattle.gc_image_collect.specs.declared.fault.CollectFault.TheVariants as fault
-use Rattle.gc_image_collect.specs.Parts.{FoundParts, Numbers, SameFound}
-use Rattle.gc_image_collect.specs.Progress.{AnswersPart, GoesOn, Progress, SaysObject}
+use Rattle.gc_image_collect.specs.Parts.{FoundHandles, NumbersObject, SameFound}
+use Rattle.gc_image_collect.specs.Progress.{AnswersImagePart, ImageGoesOn, ImageProgress, SaysObject}
 
 -- the object that a reference is has a number, and a small integer is itself
-abbrev pub TakesObject : Placing → Reference → GcRootIndex → FoundParts → FoundParts → ImageReference → Type 0
-TakesObject place null handle old new x = ⊥
-TakesObject place (small n) handle old new x = (x ≡ image_reference.Small n) × (n < 2 ^ 31) × SameFound old new
-TakesObject place (at p) handle old new x =
-    (word : ℕ) × (number : ℕ) × ((place p ≡ Some word) × (number < 2 ^ 64) × (x ≡ image_reference.Object number) × Numbers old new word handle number)
+abbrev pub MakesImageReference : Placing → Reference → GcRootIndex → FoundHandles → FoundHandles → ImageReference → Type 0
+MakesImageReference place null handle old new x = ⊥
+MakesImageReference place (small n) handle old new x = (x ≡ image_reference.Small n) × (n < 2 ^ 31) × SameFound old new
+MakesImageReference place (at p) handle old new x =
+    (word : ℕ) × (number : ℕ) × ((place p ≡ Some word) × (number < 2 ^ 64) × (x ≡ image_reference.Object number) × NumbersObject old new word handle number)
 
 -- Only want of memory is refused.
-abbrev pub TakesReference : Placing → Reference → GcRootIndex → FoundParts → FoundParts → Result ImageReference CollectFault → Type 0
-TakesReference place r handle old new (Ok x) = TakesObject place r handle old new x
-TakesReference place r handle old new (Err why) = why ≡ fault.Memory
+abbrev pub TakesImageReference : Placing → Reference → GcRootIndex → FoundHandles → FoundHandles → Result ImageReference CollectFault → Type 0
+TakesImageReference place r handle old new (Ok x) = MakesImageReference place r handle old new x
+TakesImageReference place r handle old new (Err why) = why ≡ fault.Memory
 
 -- why nothing is collected where a root isn't made
-abbrev pub refused : RootFault → CollectFault
-refused root.WrongStore = fault.Memory
-refused root.Unrooted = fault.Memory
-refused root.RootsFull = fault.RootsFull
-refused root.Memory = fault.Memory
+abbrev pub collect_fault : RootFault → CollectFault
+collect_fault root.WrongStore = fault.Memory
+collect_fault root.Unrooted = fault.Memory
+collect_fault root.RootsFull = fault.RootsFull
+collect_fault root.Memory = fault.Memory
 
 -- what a value names is reached
 abbrev pub LeadsOn : {D : Type 0} → Basis D → Value → Type 0
 LeadsOn b v = (p : ℕ) → Contains (value_references v) (at p) → IsGlobal b.table p
 
 -- the object with that number
-pub record IsReading {D : Type 0} (b : Basis D) (told : List ℕ) (number : ℕ) (object : Object D) : Type 0 where
+pub record IsNumberedObject {D : Type 0} (b : Basis D) (told : List ℕ) (number : ℕ) (object : Object D) : Type 0 where
   pub position : ℕ
   pub there : slice_get told number ≡ Some position
   pub object_is : slice_get b.table.objects position ≡ Some object
 
 -- in some search, that is an object's number
-pub record CanTake (D : Type 0) (layouts : Layouts) (s : StoreView D) (f : FoundParts) (number : ℕ) : Type 0 where
+pub record CanTakeObjectLine (D : Type 0) (layouts : Layouts) (s : StoreView D) (f : FoundHandles) (number : ℕ) : Type 0 where
   pub basis : Basis D
   pub told : List ℕ
   pub count : ℕ
-  pub progress : Progress layouts basis told count s f
+  pub progress : ImageProgress layouts basis told count s f
   pub object : Object D
-  pub reading : IsReading basis told number object
+  pub reading : IsNumberedObject basis told number object
 
 -- and the object has a value of that index
-pub record CanTakeValue (D : Type 0) (layouts : Layouts) (s : StoreView D) (f : FoundParts) (number index : ℕ) : Type 0 where
-  pub can : CanTake D layouts s f number
+pub record CanTakeImageValue (D : Type 0) (layouts : Layouts) (s : StoreView D) (f : FoundHandles) (number index : ℕ) : Type 0 where
+  pub can : CanTakeObjectLine D layouts s f number
   pub value : Value
   pub value_at : slice_get (object_values can.object) index ≡ Some value
 
 -- and it has so many values
-pub record CanTakeValues (D : Type 0) (layouts : Layouts) (s : StoreView D) (f : FoundParts) (number count : ℕ) : Type 0 where
-  pub can : CanTake D layouts s f number
+pub record CanTakeValues (D : Type 0) (layouts : Layouts) (s : StoreView D) (f : FoundHandles) (number count : ℕ) : Type 0 where
+  pub can : CanTakeObjectLine D layouts s f number
   pub count_is : count ≡ length (object_values can.object)
 
 -- and this says what it is
-pub record CanTakeKind (layouts : Layouts) (s : StoreView ℕ) (f : FoundParts) (number : ℕ) (kind : RootedObject) : Type 0 where
-  pub can : CanTake ℕ layouts s f number
+pub record CanTakeKind (layouts : Layouts) (s : StoreView ℕ) (f : FoundHandles) (number : ℕ) (kind : RootedObject) : Type 0 where
+  pub can : CanTakeObjectLine ℕ layouts s f number
   pub kind_is : IsObject (Some can.object) kind
 
 -- it is an array of that type and length, whose elements are bytes
@@ -106,7 +106,7 @@ abbrev pub IsBytesLine : StoreView ℕ → Table ℕ → GcRootIndex → ℕ →
 IsBytesLine s t handle ty l = (bytes : List ℕ) × (l ≡ line.Bytes ty bytes) × AllByRecursion (λ b. b < 2 ^ 8) bytes × CopiesBytes s t handle bytes
 
 -- What taking an object whose values are so many answers.
-abbrev pub TakesObjectLine : Layouts → Basis ℕ → List ℕ → ℕ → Object ℕ → Result ObjectLine CollectFault → StoreView ℕ → FoundParts → Type 0
+abbrev pub TakesObjectLine : Layouts → Basis ℕ → List ℕ → ℕ → Object ℕ → Result ObjectLine CollectFault → StoreView ℕ → FoundHandles → Type 0
 TakesObjectLine layouts b told start o result s f =
-    AnswersPart layouts b (λ (l : ObjectLine). GoesOn layouts b told (start + values_count (object_values o)) s f (λ then. SaysObject b.table.types then o l))
+    AnswersImagePart layouts b (λ (l : ObjectLine). ImageGoesOn layouts b told (start + values_count (object_values o)) s f (λ then. SaysObject b.table.types then o l))
     (LacksRoots b.table (start + values_count (object_values o))) result s

@@ -4,7 +4,7 @@ ghost use Rattle.std.specs.Prelude.{ℕ, MatchResult};
 ghost use Rattle.gc_model.specs.Table.{Table};
 ghost use Rattle.gc_policy.specs.Accounts.{Account, HoldsAccount};
 ghost use Rattle.gc_store.specs.Stores.{IsSameStore};
-ghost use Rattle.gc_image_collect.specs.Answers.{Collects, OnlyPushed, RefusesCollection};
+ghost use Rattle.gc_image_collect.specs.Answers.{CollectsImage, DropsImageRoots, RefusesCollection};
 ghost use Rattle.gc_image_collect.specs.GlobalSteps.{StoppedAt};
 
 use crate::fault::CollectFault;
@@ -34,8 +34,8 @@ pub fn collect_objects<H: GcHeap>(
     alloc: Global,
     store: &mut Store<H, u64>,
 ) -> Result<Collected, CollectFault>
-    ensures collects { (t : Table ℕ) (a : Account) → HoldsAccount H.KIND store.old t a → MatchResult result (Collects t) (RefusesCollection t) }
-    ensures leaves { (t : Table ℕ) (a : Account) → HoldsAccount H.KIND store.old t a → OnlyPushed H.KIND t a store.new }
+    ensures collects { (t : Table ℕ) (a : Account) → HoldsAccount H.KIND store.old t a → MatchResult result (CollectsImage t) (RefusesCollection t) }
+    ensures leaves { (t : Table ℕ) (a : Account) → HoldsAccount H.KIND store.old t a → DropsImageRoots H.KIND t a store.new }
     ensures same { IsSameStore store.old store.new }
 {
     let mark = store.enter_gc_lifo_scope();
@@ -49,7 +49,7 @@ fn collect_in_scope<H: GcHeap>(
     alloc: Global,
     store: &mut Store<H, u64>,
 ) -> Result<Collected, CollectFault>
-    ensures collects { (t : Table ℕ) (a : Account) → HoldsAccount H.KIND store.old t a → MatchResult result (Collects t) (RefusesCollection t) }
+    ensures collects { (t : Table ℕ) (a : Account) → HoldsAccount H.KIND store.old t a → MatchResult result (CollectsImage t) (RefusesCollection t) }
     ensures stopped { (t : Table ℕ) (a : Account) → HoldsAccount H.KIND store.old t a → StoppedAt H.KIND t a store.new }
     ensures same { IsSameStore store.old store.new }
 {

@@ -1,7 +1,7 @@
 //! The objects that were found.
 
 ghost use Rattle.std.specs.Prelude.{◌≡◌, IfOk, length};
-ghost use Rattle.gc_image_collect.specs.Parts.{Numbers, empty_parts, parts};
+ghost use Rattle.gc_image_collect.specs.Parts.{NumbersObject, empty_found, found_handles};
 
 use gc_store::GcRootIndex;
 use std::alloc::{AllocError, Global};
@@ -16,7 +16,7 @@ pub(crate) struct Found {
 
 impl Found {
     pub(crate) fn new(alloc: Global) -> Found
-        ensures { parts result ≡ empty_parts }
+        ensures { found_handles result ≡ empty_found }
     {
         Found {
             handles: Vec::new(alloc),
@@ -26,7 +26,7 @@ impl Found {
 
     /// The number of the object with that word, which a handle names: the next one where it has none yet.
     pub(crate) fn number(&mut self, word: u32, handle: GcRootIndex) -> Result<usize, AllocError>
-        ensures { IfOk result (Numbers (parts self.old) (parts self.new) word handle) }
+        ensures { IfOk result (NumbersObject (found_handles self.old) (found_handles self.new) word handle) }
     {
         if let Some(number) = self.numbers.get(&word) {
             return Ok(*number);

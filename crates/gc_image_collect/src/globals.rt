@@ -9,8 +9,8 @@ ghost use Rattle.gc_store.specs.Slots.{slot_value};
 ghost use Rattle.gc_store.specs.Stores.{IsSameStore};
 ghost use Rattle.gc_store.specs.Values.{NamesLive};
 ghost use Rattle.gc_paths.specs.Progress.{Basis};
-ghost use Rattle.gc_image_collect.specs.Parts.{parts};
-ghost use Rattle.gc_image_collect.specs.Progress.{AnswersPart, GoesOn, Progress};
+ghost use Rattle.gc_image_collect.specs.Parts.{found_handles};
+ghost use Rattle.gc_image_collect.specs.Progress.{AnswersImagePart, ImageGoesOn, ImageProgress};
 ghost use Rattle.gc_image_collect.specs.Steps.{LeadsOn};
 ghost use Rattle.gc_image_collect.specs.GlobalSteps.{AddsLine, AllRead, AnswersGlobals, CanSay, GlobalsRead, GlobalsSaid};
 ghost use Rattle.gc_image_collect.specs.GlobalSteps.{IsRead, IsUnset, ReadsGlobal, slot_refused};
@@ -97,9 +97,9 @@ fn add_line<H: GcHeap>(
     read: GlobalRead,
 ) -> Result<(), CollectFault>
     requires { NamesLive ℕ H.KIND store.now (raw.Ref read.class read.handle) }
-    ensures { (b : Basis ℕ) (told : List ℕ) (count : ℕ) (slot : Slot) (progress : Progress H.KIND b told count store.now (parts found.old))
+    ensures { (b : Basis ℕ) (told : List ℕ) (count : ℕ) (slot : Slot) (progress : ImageProgress H.KIND b told count store.now (found_handles found.old))
         → IsRead store.now progress.holds.now slot read → LeadsOn b (slot_value slot)
-        → AnswersPart H.KIND b (λ done. GoesOn H.KIND b told count store.now (parts found.new)
+        → AnswersImagePart H.KIND b (λ done. ImageGoesOn H.KIND b told count store.now (found_handles found.new)
         (λ then. AddsLine then lines.old.items lines.new.items index slot))
         ⊥ result store.now }
 {
@@ -120,10 +120,10 @@ pub(crate) fn global_lines<H: GcHeap>(
     found: &mut Found,
     reads: &[GlobalRead],
 ) -> Result<Vec<GlobalLine>, CollectFault>
-    requires { CanSay H.KIND store.now (parts found.old) reads.now }
-    ensures { (b : Basis ℕ) (count : ℕ) (progress : Progress H.KIND b [] count store.now (parts found.old))
+    requires { CanSay H.KIND store.now (found_handles found.old) reads.now }
+    ensures { (b : Basis ℕ) (count : ℕ) (progress : ImageProgress H.KIND b [] count store.now (found_handles found.old))
         → AllRead store.now progress.holds.now b.table.globals reads.now
-        → AnswersPart H.KIND b (λ lines. GoesOn H.KIND b [] count store.now (parts found.new)
+        → AnswersImagePart H.KIND b (λ lines. ImageGoesOn H.KIND b [] count store.now (found_handles found.new)
         (λ then. GlobalsSaid then (length b.table.globals) b.table.globals lines.items))
         ⊥ result store.now }
 {

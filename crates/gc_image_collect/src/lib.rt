@@ -1,4 +1,7 @@
-//! What the globals of a store reach, as the lines of an image.
+//! What the globals of a store reach, as the lines of an image, found breadth first over handles.
+//!
+//! It promises a line for each object that they reach and for no other, by the numbers in which they were found
+//! (`collect_objects`). It asks the store for roots, objects and values by their handles, and gives the roots back.
 #![tactic(auto)]
 
 mod collect;

@@ -12,9 +12,9 @@ ghost use Rattle.gc_store.specs.Roots.{IsObject, NamesReference};
 ghost use Rattle.gc_store.specs.Stores.{IsSameStore};
 ghost use Rattle.gc_store.specs.Values.{IsLive};
 ghost use Rattle.gc_paths.specs.Progress.{Basis, values_count};
-ghost use Rattle.gc_image_collect.specs.Parts.{parts};
-ghost use Rattle.gc_image_collect.specs.Progress.{AnswersPart, Ended, IsBegun, PassesRoom, Progress};
-ghost use Rattle.gc_image_collect.specs.Steps.{CanTake, CanTakeKind, IsBytesLine, IsReading, IsWordsLine, IsOfBytes, NoBytes, TakesObjectLine};
+ghost use Rattle.gc_image_collect.specs.Parts.{found_handles};
+ghost use Rattle.gc_image_collect.specs.Progress.{AnswersImagePart, HasAllLines, IsImageBegun, ImagePassesRoom, ImageProgress};
+ghost use Rattle.gc_image_collect.specs.Steps.{CanTakeObjectLine, CanTakeKind, IsBytesLine, IsNumberedObject, IsWordsLine, IsOfBytes, NoBytes, TakesObjectLine};
 
 use crate::fault::CollectFault;
 use crate::found::Found;
@@ -22,7 +22,7 @@ use crate::reading::take_values;
 use gc_commands::ByteText;
 use gc_heap::GcHeap;
 use gc_image::{ImageValue, ImageValues, ObjectLine};
-use gc_paths::count_in;
+use gc_paths::count_values;
 use gc_store::{GcRootIndex, RootedObject, Store};
 use gc_types::VMSharedTypeIndex;
 use std::alloc::Global;
@@ -134,9 +134,9 @@ pub(crate) fn take_object<H: GcHeap>(
     found: &mut Found,
     number: usize,
 ) -> Result<ObjectLine, CollectFault>
-    requires { CanTake ℕ H.KIND store.old (parts found.old) number }
-    ensures takes { (b : Basis ℕ) (told : List ℕ) (start : ℕ) (o : Object ℕ) → Progress H.KIND b told start store.old (parts found.old)
-        → IsReading b told number o → TakesObjectLine H.KIND b told start o result store.new (parts found.new) }
+    requires { CanTakeObjectLine ℕ H.KIND store.old (found_handles found.old) number }
+    ensures takes { (b : Basis ℕ) (told : List ℕ) (start : ℕ) (o : Object ℕ) → ImageProgress H.KIND b told start store.old (found_handles found.old)
+        → IsNumberedObject b told number o → TakesObjectLine H.KIND b told start o result store.new (found_handles found.new) }
     ensures same { IsSameStore store.old store.new }
 {
     let handle = found.handles[number];
@@ -154,9 +154,9 @@ fn take_kind<H: GcHeap>(
     number: usize,
     object: RootedObject,
 ) -> Result<ObjectLine, CollectFault>
-    requires { CanTakeKind H.KIND store.old (parts found.old) number object }
-    ensures takes { (b : Basis ℕ) (told : List ℕ) (start : ℕ) (o : Object ℕ) → Progress H.KIND b told start store.old (parts found.old)
-        → IsReading b told number o → IsObject (Some o) object → TakesObjectLine H.KIND b told start o result store.new (parts found.new) }
+    requires { CanTakeKind H.KIND store.old (found_handles found.old) number object }
+    ensures takes { (b : Basis ℕ) (told : List ℕ) (start : ℕ) (o : Object ℕ) → ImageProgress H.KIND b told start store.old (found_handles found.old)
+        → IsNumberedObject b told number o → IsObject (Some o) object → TakesObjectLine H.KIND b told start o result store.new (found_handles found.new) }
     ensures same { IsSameStore store.old store.new }
 {
     let handle = found.handles[number];
@@ -174,13 +174,13 @@ fn take_words<H: GcHeap>(
     number: usize,
     object: RootedObject,
 ) -> Result<ObjectLine, CollectFault>
-    requires { CanTakeKind H.KIND store.old (parts found.old) number object }
-    ensures takes { (b : Basis ℕ) (told : List ℕ) (start : ℕ) (o : Object ℕ) → Progress H.KIND b told start store.old (parts found.old)
-        → IsReading b told number o → IsObject (Some o) object → AreDeclared store.old.types → NoBytes store.old.types object
-        → TakesObjectLine H.KIND b told start o result store.new (parts found.new) }
+    requires { CanTakeKind H.KIND store.old (found_handles found.old) number object }
+    ensures takes { (b : Basis ℕ) (told : List ℕ) (start : ℕ) (o : Object ℕ) → ImageProgress H.KIND b told start store.old (found_handles found.old)
+        → IsNumberedObject b told number o → IsObject (Some o) object → AreDeclared store.old.types → NoBytes store.old.types object
+        → TakesObjectLine H.KIND b told start o result store.new (found_handles found.new) }
     ensures same { IsSameStore store.old store.new }
 {
-    let count = count_in(store, &object);
+    let count = count_values(store, &object);
     let words = take_values(alloc, store, found, number, count)?;
     let handle = found.handles[number];
     Ok(words_line(store, handle, object, words))
@@ -192,9 +192,9 @@ pub(crate) fn take_objects<H: GcHeap>(
     store: &mut Store<H, u64>,
     found: &mut Found,
 ) -> Result<Vec<ObjectLine>, CollectFault>
-    requires { IsBegun H.KIND store.old (parts found.old) }
-    ensures takes { (b : Basis ℕ) (told : List ℕ) (start : ℕ) → Progress H.KIND b told start store.old (parts found.old)
-        → AnswersPart H.KIND b (λ lines. Ended H.KIND b told start store.new (parts found.new) lines.items) (PassesRoom b start) result store.new }
+    requires { IsImageBegun H.KIND store.old (found_handles found.old) }
+    ensures takes { (b : Basis ℕ) (told : List ℕ) (start : ℕ) → ImageProgress H.KIND b told start store.old (found_handles found.old)
+        → AnswersImagePart H.KIND b (λ lines. HasAllLines H.KIND b told start store.new (found_handles found.new) lines.items) (ImagePassesRoom b start) result store.new }
     ensures same { IsSameStore store.old store.new }
 {
     let mut lines = Vec::new(alloc);

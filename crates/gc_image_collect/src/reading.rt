@@ -5,10 +5,10 @@ ghost use Rattle.gc_model.specs.Reach.{object_values};
 ghost use Rattle.gc_model.specs.Values.{Object, Value};
 ghost use Rattle.gc_store.specs.Stores.{IsSameStore};
 ghost use Rattle.gc_paths.specs.Answers.{LacksRoots};
-ghost use Rattle.gc_paths.specs.Progress.{Basis, value_count, values_count};
-ghost use Rattle.gc_image_collect.specs.Parts.{parts};
-ghost use Rattle.gc_image_collect.specs.Progress.{AnswersPart, GoesOn, Progress, SaysFirst, SaysValue};
-ghost use Rattle.gc_image_collect.specs.Steps.{CanTakeValue, CanTakeValues, IsReading, refused};
+ghost use Rattle.gc_paths.specs.Progress.{Basis, present_in_value, values_count};
+ghost use Rattle.gc_image_collect.specs.Parts.{found_handles};
+ghost use Rattle.gc_image_collect.specs.Progress.{AnswersImagePart, ImageGoesOn, ImageProgress, SaysFirst, SaysValue};
+ghost use Rattle.gc_image_collect.specs.Steps.{CanTakeImageValue, CanTakeValues, IsNumberedObject, collect_fault};
 
 use crate::fault::CollectFault;
 use crate::found::Found;
@@ -20,7 +20,7 @@ use std::alloc::Global;
 
 /// A store's refusal as one of these calls.
 fn refused(fault: RootFault) -> CollectFault
-    ensures { result ≡ refused fault }
+    ensures { result ≡ collect_fault fault }
 {
     match fault {
         RootFault::WrongStore => CollectFault::Memory,
@@ -37,11 +37,11 @@ fn take_value<H: GcHeap>(
     number: usize,
     index: u32,
 ) -> Result<ImageValue, CollectFault>
-    requires { CanTakeValue ℕ H.KIND store.old (parts found.old) number index }
+    requires { CanTakeImageValue ℕ H.KIND store.old (found_handles found.old) number index }
     ensures takes { (b : Basis ℕ) (told : List ℕ) (count : ℕ) (o : Object ℕ) (v : Value)
-        → Progress H.KIND b told count store.old (parts found.old) → IsReading b told number o → slice_get (object_values o) index ≡ Some v
-        → AnswersPart H.KIND b (λ x. GoesOn H.KIND b told (count + value_count v) store.new (parts found.new) (λ then. SaysValue then v x))
-        (LacksRoots b.table (count + value_count v)) result store.new }
+        → ImageProgress H.KIND b told count store.old (found_handles found.old) → IsNumberedObject b told number o → slice_get (object_values o) index ≡ Some v
+        → AnswersImagePart H.KIND b (λ x. ImageGoesOn H.KIND b told (count + present_in_value v) store.new (found_handles found.new) (λ then. SaysValue then v x))
+        (LacksRoots b.table (count + present_in_value v)) result store.new }
     ensures same { IsSameStore store.old store.new }
 {
     let handle = found.handles[number];
@@ -59,10 +59,10 @@ pub(crate) fn take_values<H: GcHeap>(
     number: usize,
     count: u32,
 ) -> Result<Vec<ImageValue>, CollectFault>
-    requires { CanTakeValues ℕ H.KIND store.old (parts found.old) number count }
+    requires { CanTakeValues ℕ H.KIND store.old (found_handles found.old) number count }
     ensures takes { (b : Basis ℕ) (told : List ℕ) (start : ℕ) (o : Object ℕ)
-        → Progress H.KIND b told start store.old (parts found.old) → IsReading b told number o → count ≡ length (object_values o)
-        → AnswersPart H.KIND b (λ words. GoesOn H.KIND b told (start + values_count (object_values o)) store.new (parts found.new)
+        → ImageProgress H.KIND b told start store.old (found_handles found.old) → IsNumberedObject b told number o → count ≡ length (object_values o)
+        → AnswersImagePart H.KIND b (λ words. ImageGoesOn H.KIND b told (start + values_count (object_values o)) store.new (found_handles found.new)
         (λ then. SaysFirst then (length (object_values o)) (object_values o) words.items))
         (LacksRoots b.table (start + values_count (object_values o))) result store.new }
     ensures same { IsSameStore store.old store.new }

@@ -9,9 +9,9 @@ ghost use Rattle.gc_store.specs.Roots.{NamesReference};
 ghost use Rattle.gc_store.specs.Slots.{HandleStands};
 ghost use Rattle.gc_store.specs.Values.{IsLive, NamesLive, RawStands};
 ghost use Rattle.gc_paths.specs.Progress.{Basis};
-ghost use Rattle.gc_image_collect.specs.Parts.{parts};
-ghost use Rattle.gc_image_collect.specs.Progress.{AnswersPart, GoesOn, Progress, SaysValue};
-ghost use Rattle.gc_image_collect.specs.Steps.{LeadsOn, TakesReference};
+ghost use Rattle.gc_image_collect.specs.Parts.{found_handles};
+ghost use Rattle.gc_image_collect.specs.Progress.{AnswersImagePart, ImageGoesOn, ImageProgress, SaysValue};
+ghost use Rattle.gc_image_collect.specs.Steps.{LeadsOn, TakesImageReference};
 
 use crate::fault::CollectFault;
 use crate::found::Found;
@@ -28,7 +28,7 @@ fn reference_of<H: GcHeap>(
 ) -> Result<ImageReference, CollectFault>
     requires { IsLive ℕ H.KIND store.now handle }
     ensures { (t : Table ℕ) (place : Placing) (r : Reference) → Holds H.KIND store.now t place → NamesReference store.now t handle r
-        → TakesReference place r handle (parts found.old) (parts found.new) result }
+        → TakesImageReference place r handle (found_handles found.old) (found_handles found.new) result }
 {
     let word = match store.word(handle) {
         Ok(word) => word,
@@ -51,9 +51,9 @@ pub(crate) fn take_reference<H: GcHeap>(
     handle: Option<GcRootIndex>,
 ) -> Result<ImageValue, CollectFault>
     requires { NamesLive ℕ H.KIND store.now (raw.Ref class handle) }
-    ensures { (b : Basis ℕ) (told : List ℕ) (count : ℕ) (q : Reference) (progress : Progress H.KIND b told count store.now (parts found.old))
+    ensures { (b : Basis ℕ) (told : List ℕ) (count : ℕ) (q : Reference) (progress : ImageProgress H.KIND b told count store.now (found_handles found.old))
         → HandleStands store.now progress.holds.now handle q → LeadsOn b (reference class q)
-        → AnswersPart H.KIND b (λ x. GoesOn H.KIND b told count store.now (parts found.new) (λ then. SaysValue then (reference class q) x)) ⊥ result store.now }
+        → AnswersImagePart H.KIND b (λ x. ImageGoesOn H.KIND b told count store.now (found_handles found.new) (λ then. SaysValue then (reference class q) x)) ⊥ result store.now }
 {
     match handle {
         None => Ok(ImageValue::Ref(class, ImageReference::Null)),
@@ -71,9 +71,9 @@ pub(crate) fn take_raw<H: GcHeap>(
     value: RawValue,
 ) -> Result<ImageValue, CollectFault>
     requires { NamesLive ℕ H.KIND store.now value }
-    ensures { (b : Basis ℕ) (told : List ℕ) (count : ℕ) (v : Value) (progress : Progress H.KIND b told count store.now (parts found.old))
+    ensures { (b : Basis ℕ) (told : List ℕ) (count : ℕ) (v : Value) (progress : ImageProgress H.KIND b told count store.now (found_handles found.old))
         → RawStands store.now progress.holds.now value v → LeadsOn b v
-        → AnswersPart H.KIND b (λ x. GoesOn H.KIND b told count store.now (parts found.new) (λ then. SaysValue then v x)) ⊥ result store.now }
+        → AnswersImagePart H.KIND b (λ x. ImageGoesOn H.KIND b told count store.now (found_handles found.new) (λ then. SaysValue then v x)) ⊥ result store.now }
 {
     match value {
         RawValue::I32(n) => Ok(ImageValue::I32(n)),

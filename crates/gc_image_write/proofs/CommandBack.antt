@@ -25,9 +25,9 @@ use Rattle.gc_commands.specs.declared.command.StorageWord.TheVariants as storage
 use Rattle.gc_commands.specs.declared.command.ValueWord.{ValueWord}
 use Rattle.gc_commands.specs.declared.command.ValueWord.TheVariants as value
 use Rattle.gc_commands.specs.Spelling.{IsDeclaring}
-use Rattle.gc_commands.specs.TypeWords.{each_of, field_of, heap_of, kinds_with, mutability_of, named_type, onto, storage_of, value_of}
+use Rattle.gc_commands.specs.TypeWords.{each_of, field_of, heap_of, kinds_with, mutability_of, named_type, with_first, storage_of, value_type_of}
 use Rattle.gc_image.specs.Declaring.{DeclareInTurn, declared_by}
-use Rattle.gc_image.specs.Text.{FitsType}
+use Rattle.gc_image.specs.Text.{FitsImageType}
 use Rattle.gc_model.proofs.Lists.{slice_get-push_new, slice_get-push_old}
 
 -- the word of a type; of one that no word spells some word
@@ -101,7 +101,7 @@ mapped : {A B : Type 0} (f : A → B) (o : Option A) (y : B) → option_map f o 
 mapped f None y e = absurd (none-some y e)
 mapped f (Some x) y e = (x, (refl, same_Some (f x) y e))
 
-value_one : (kind : ℕ → Option TypeKind) (w : ValueWord) (ty : ValType) → value_of kind w ≡ Some ty → w ≡ value_back ty
+value_one : (kind : ℕ → Option TypeKind) (w : ValueWord) (ty : ValType) → value_type_of kind w ≡ Some ty → w ≡ value_back ty
 value_one kind value.I32 ty e = ap value_back (same_Some val_type.I32 ty e)
 value_one kind value.I64 ty e = ap value_back (same_Some val_type.I64 ty e)
 value_one kind value.F32 ty e = ap value_back (same_Some val_type.F32 ty e)
@@ -115,7 +115,7 @@ storage_one : (kind : ℕ → Option TypeKind) (w : StorageWord) (ty : StorageTy
 storage_one kind storage.I8 ty e = ap storage_back (same_Some storage_type.I8 ty e)
 storage_one kind storage.I16 ty e = ap storage_back (same_Some storage_type.I16 ty e)
 storage_one kind (storage.Value v) ty e =
-    let at = mapped (λ (t : ValType). storage_type.ValType t) (value_of kind v) ty e in ap storage.Value (value_one kind v at.0 at.1.0) ∙ ap storage_back at.1.1
+    let at = mapped (λ (t : ValType). storage_type.ValType t) (value_type_of kind v) ty e in ap storage.Value (value_one kind v at.0 at.1.0) ∙ ap storage_back at.1.1
 
 var_one : (b : Bool) → is_var (mutability_of b) ≡ b
 var_one true = refl
@@ -134,7 +134,7 @@ record Both {A : Type 0} (o : Option A) (rest : Option (List A)) (all : List A) 
   is_rest : rest ≡ Some others
   whole : first ∷ others ≡ all
 
-both_there : {A : Type 0} (o : Option A) (rest : Option (List A)) (all : List A) → onto o rest ≡ Some all → Both o rest all
+both_there : {A : Type 0} (o : Option A) (rest : Option (List A)) (all : List A) → with_first o rest ≡ Some all → Both o rest all
 both_there None rest all e = absurd (none-some all e)
 both_there (Some x) None all e = absurd (none-some all e)
 both_there (Some x) (Some xs) all e = record { first = x; others = xs; is_first = refl; is_rest = refl; whole = same_Some (x ∷ xs) all e }
@@ -156,8 +156,8 @@ command_one types (command.Array is_final supertype elem) d is e =
     ap (command.Array is_final supertype) (field_one kind elem at.0 at.1.0) ∙ ap command_back at.1.1
 command_one types (command.Exn params) d is e =
     let kind = kinds_with types kinds.Exn in
-    let at = mapped (λ (ps : List ValType). exn_type ps) (each_of (value_of kind) params) d e in
-    ap command.Exn (each_one (value_of kind) value_back (value_one kind) params at.0 at.1.0) ∙ ap command_back at.1.1
+    let at = mapped (λ (ps : List ValType). exn_type ps) (each_of (value_type_of kind) params) d e in
+    ap command.Exn (each_one (value_type_of kind) value_back (value_one kind) params at.0 at.1.0) ∙ ap command_back at.1.1
 command_one types _ d is e = absurd is
 
 turn_long : (types : List Declaration) (cs : List Command) (all : List Declaration) → DeclareInTurn types cs all → length all ≡ length types + length cs
@@ -169,7 +169,7 @@ turn_keeps types [] all i d turn there = ap (λ ds. slice_get ds i) (sym turn) �
 turn_keeps types (c ∷ cs) all i d turn there = turn_keeps (types ++ turn.0 ∷ []) cs all i d turn.1.1 (slice_get-push_old types turn.0 i d there)
 
 -- commands that declare the same types are the same
-pub commands_one : (types : List Declaration) (cs ds : List Command) (all : List Declaration) → DeclareInTurn types cs all → DeclareInTurn types ds all → AllByRecursion FitsType cs → AllByRecursion FitsType ds
+pub commands_one : (types : List Declaration) (cs ds : List Command) (all : List Declaration) → DeclareInTurn types cs all → DeclareInTurn types ds all → AllByRecursion FitsImageType cs → AllByRecursion FitsImageType ds
     → cs ≡ ds
 commands_one types [] [] all turn other fit fits = refl
 commands_one types [] (d ∷ ds) all turn other fit fits = absurd (let one = turn_long types [] all turn in let two = turn_long types (d ∷ ds) all other in omega (arith, one, two))

@@ -13,7 +13,7 @@ use Rattle.gc_commands.specs.declared.command.Command.TheVariants as command
 use Rattle.gc_commands.specs.declared.command.FieldWord.{FieldWord}
 use Rattle.gc_commands.specs.declared.command.ValueWord.{ValueWord}
 use Rattle.gc_commands.specs.Spelling.{FitsField, FitsValue, type_count}
-use Rattle.gc_commands.specs.TypeWords.{field_of, fields_of, kinds_with, value_of, values_of}
+use Rattle.gc_commands.specs.TypeWords.{field_of, fields_of, kinds_with, value_type_of, values_of}
 use Rattle.gc_image_write.specs.Plain.{IsPlainField, IsPlainVal}
 use Rattle.gc_image_write.specs.TypeWords.{AreWordsOf, Commanded, WordsField, WordsValue}
 use Rattle.gc_image_write.proofs.KindLemmas.{grown_kinds, words_fit, words_plain, words_spell}
@@ -62,11 +62,11 @@ pub exn_made : (types : List Declaration) (params : List ValType) (words : List 
     → Commanded types (exn_type params) (Some (command.Exn words))
 exn_made types params words declarable worded =
     let d = exn_type params in let all = types ++ d ∷ [] in
-    let fit = words_fit IsPlainVal IsKnownVal FitsValue value_of all params words (few_types types d declarable) declarable.known worded in
+    let fit = words_fit IsPlainVal IsKnownVal FitsValue value_type_of all params words (few_types types d declarable) declarable.known worded in
     let few : length words ≤ 10000 = omega (arith, AllZip-long (λ x w. WordsValue x (Some w)) params words worded, declarable.few_fields) in
     let spelled : values_of (kinds_with types kinds.Exn) words ≡ Some params =
-    ap (λ kind. values_of kind words) (grown_kinds types d) ∙ words_spell IsPlainVal IsKnownVal FitsValue value_of all params words declarable.known worded in (
-      words_plain IsPlainVal IsKnownVal FitsValue value_of params words worded,
+    ap (λ kind. values_of kind words) (grown_kinds types d) ∙ words_spell IsPlainVal IsKnownVal FitsValue value_type_of all params words declarable.known worded in (
+      words_plain IsPlainVal IsKnownVal FitsValue value_type_of params words worded,
       record {
         declares = record { spelled = ap (option_map (λ (ps : List ValType). exn_type ps)) spelled; declarable = declarable };
         fits = (tt, record { fits = fit; short = exn_short words fit few; spelled = refl });

@@ -6,7 +6,7 @@ use Rattle.std.proofs.lemmas.Bool.{cases_eq}
 use Rattle.std.proofs.lemmas.Option.{none-some, same_Some}
 use Rattle.gc_owner.specs.declared.entry.GcClass.{GcClass}
 use Rattle.gc_owner.specs.declared.entry.GcClass.TheVariants as class
-use Rattle.gc_model.specs.Table.{Slot, empty_slot}
+use Rattle.gc_model.specs.Table.{Slot, null_slot}
 use Rattle.gc_model.specs.Values.{Reference, null, small, at}
 use Rattle.gc_image.specs.declared.image.GlobalLine.{GlobalLine}
 use Rattle.gc_image.specs.declared.image.ImageReference.TheVariants as image_reference
@@ -78,7 +78,7 @@ module _ (position back : ℕ → ℕ) (count : ℕ) (is_back : (n : ℕ) → n 
     pub from : (i : ℕ) (line : GlobalLine) → slice_get lines i ≡ Some line → a ≤ line.index
     pub holds : (i : ℕ) (line : GlobalLine) → slice_get lines i ≡ Some line → HoldsReference count line.value
     pub said : (i : ℕ) (line : GlobalLine) → slice_get lines i ≡ Some line → (slot : Slot) × ((slice_get slots (line.index - a) ≡ Some slot) × SaysSlot position line.value slot)
-    pub unsaid : (k : ℕ) (slot : Slot) → slice_get slots k ≡ Some slot → ((i : ℕ) (line : GlobalLine) → slice_get lines i ≡ Some line → ¬ (line.index ≡ a + k)) → slot ≡ empty_slot
+    pub unsaid : (k : ℕ) (slot : Slot) → slice_get slots k ≡ Some slot → ((i : ℕ) (line : GlobalLine) → slice_get lines i ≡ Some line → ¬ (line.index ≡ a + k)) → slot ≡ null_slot
 
   rising_rest : (line : GlobalLine) (lines : List GlobalLine) → AreRising (line ∷ lines) → AreRising lines
   rising_rest line lines rising i one next there behind =

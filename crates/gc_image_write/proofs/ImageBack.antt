@@ -19,12 +19,12 @@ use Rattle.gc_image.specs.declared.image.ObjectLine.{ObjectLine}
 use Rattle.gc_image.specs.Images.{Images, IsGlobal, placed_object}
 use Rattle.gc_image.specs.Parts.{ImageParts}
 use Rattle.gc_image.specs.Text.{FitsImage, FitsObject}
-use Rattle.gc_image.specs.Well.{IsHeld, as_object, as_value, line_values, number_named}
+use Rattle.gc_image.specs.Well.{GlobalHolds, as_object, as_value, line_values, number_named}
 use Rattle.gc_image.proofs.AlikeLemmas.{named_below, number_of}
 use Rattle.gc_image_write.specs.Graphs.{graph_of, held_by, named_in, values_in}
 use Rattle.gc_image_write.specs.Order.{AreClosed, early_in}
 use Rattle.gc_image_write.specs.Renaming.{AreAllReached, IsWithin}
-use Rattle.gc_image_write.specs.Visiting.{Graph, Stands}
+use Rattle.gc_image_write.specs.Visiting.{Graph, IsVisited}
 use Rattle.gc_image_write.proofs.GlobalBack.{held_back, lines_back, lines_one, reference_position, slot_positions}
 use Rattle.gc_image_write.proofs.GraphLemmas.{lines_reached, lines_within}
 use Rattle.gc_image_write.proofs.LineBack.{back_line, line_early, line_named, object_back, positions_early, positions_named}
@@ -133,7 +133,7 @@ module _ (t : Table ℕ) (image : ImageParts) (is : Images t image) (fit : FitsI
   held_are : graph.globals ≡ map back (slot_positions t.globals)
   held_are = ap held_by globals_are ∙ held_back back 0 t.globals
 
-  slot_reached : (p : ℕ) → Stands (slot_positions t.globals) p → IsGlobal t p
+  slot_reached : (p : ℕ) → IsVisited (slot_positions t.globals) p → IsGlobal t p
   slot_reached p stands =
       let slot = from_filter (λ (s : Slot). reference_position s.reference) t.globals p stands in
       let holds : slice_get (slot_references t.globals) slot.0 ≡ Some (at p) =
@@ -143,7 +143,7 @@ module _ (t : Table ℕ) (image : ImageParts) (is : Images t image) (fit : FitsI
   pub globals_there : map is.position graph.globals ≡ slot_positions t.globals
   globals_there = ap (map is.position) held_are ∙ map_back back is.position (slot_positions t.globals) (λ p stands. (position_back p (slot_reached p stands)).1)
 
-  held_below : (n : ℕ) → IsHeld image.globals n → n < count
+  held_below : (n : ℕ) → GlobalHolds image.globals n → n < count
   held_below n held =
       let stands = into_filter (λ (g : GlobalLine). number_named g.value) image.globals held.0 held.1 n held.2.0 held.2.1 in
       let p = renamed_element back (slot_positions t.globals) stands.0 n (subst (λ xs. slice_get xs stands.0 ≡ Some n) held_are stands.1) in

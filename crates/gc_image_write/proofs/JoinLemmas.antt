@@ -9,20 +9,20 @@ use Rattle.gc_commands.specs.Spelling.{spelling}
 use Rattle.gc_image.specs.declared.image.GlobalLine.{GlobalLine}
 use Rattle.gc_image.specs.declared.image.ObjectLine.{ObjectLine}
 use Rattle.gc_image.specs.Text.{count_text, ended_line, global_text, image_text, object_text}
-use Rattle.gc_image_write.specs.Writing.{lines_of, spaced}
+use Rattle.gc_image_write.specs.Writing.{lines_of, spaced_texts}
 
-pub joined : {A : Type 0} (text : A → List ℕ) (word : List ℕ) (words : List A) → join_with_byte 32 (word ∷ map text words) ≡ word ++ spaced text words
+pub joined : {A : Type 0} (text : A → List ℕ) (word : List ℕ) (words : List A) → join_with_byte 32 (word ∷ map text words) ≡ word ++ spaced_texts text words
 joined text word [] = sym (append-nil word)
 joined text word (next ∷ words) = ap (λ rest. word ++ 32 ∷ rest) (joined text (text next) words)
 
 -- behind a front and a word others were appended
 pub row_pushed : {A E : Type 0} (r : Result (Unit {0}) E) (old mid new : List ℕ) (front : List ℕ → List ℕ) → ((word rest : List ℕ) → front word ++ rest ≡ front (word ++ rest))
     → (text : A → List ℕ) (given words : List A) (word : List ℕ) → mid ≡ old ++ front word → given ≡ words
-    → OnOk r (new ≡ mid ++ spaced text given) → OnOk r (new ≡ old ++ front (join_with_byte 32 (word ∷ map text words)))
+    → OnOk r (new ≡ mid ++ spaced_texts text given) → OnOk r (new ≡ old ++ front (join_with_byte 32 (word ∷ map text words)))
 row_pushed r old mid new front law text given words word wrote same pushed =
     on_ok_weaker r
-    (λ e. e ∙ ap (λ m. m ++ spaced text given) wrote ∙ append_assoc old (front word) (spaced text given)
-    ∙ ap (λ w. old ++ w) (law word (spaced text given) ∙ ap front (ap (λ v. word ++ spaced text v) same ∙ sym (joined text word words))))
+    (λ e. e ∙ ap (λ m. m ++ spaced_texts text given) wrote ∙ append_assoc old (front word) (spaced_texts text given)
+    ∙ ap (λ w. old ++ w) (law word (spaced_texts text given) ∙ ap front (ap (λ v. word ++ spaced_texts text v) same ∙ sym (joined text word words))))
     pushed
 
 -- all lines of an image

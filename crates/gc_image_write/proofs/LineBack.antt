@@ -18,10 +18,10 @@ use Rattle.gc_image.specs.declared.image.ImageValue.TheVariants as value
 use Rattle.gc_image.specs.declared.image.ObjectLine.{ObjectLine}
 use Rattle.gc_image.specs.declared.image.ObjectLine.TheVariants as object
 use Rattle.gc_image.specs.Images.{placed_object, placed_reference, placed_value}
-use Rattle.gc_image.specs.Text.{FitsObject, FitsValue}
+use Rattle.gc_image.specs.Text.{FitsObject, FitsImageValue}
 use Rattle.gc_image.specs.Well.{HasShape, IsPacked, as_object, as_reference, as_value, line_values, number_named}
 use Rattle.gc_image_write.specs.Graphs.{named_in}
-use Rattle.gc_image_write.specs.Order.{AreBelow, IsBelow, early_in, early_of, is_early_in}
+use Rattle.gc_image_write.specs.Order.{AreBelow, NamesBelow, early_in, early_of, is_early_in}
 use Rattle.gc_image_write.proofs.LineBelow.{IsLineBelow}
 use Rattle.gc_image_write.proofs.PickLemmas.{filter_renamed, map_cons}
 
@@ -173,7 +173,7 @@ module _ (position back : ℕ → ℕ) (count : ℕ) (is_back : (n : ℕ) → n 
   back_reference (image_reference.Small n) below = refl
   back_reference (image_reference.Object n) below = ap image_reference.Object (is_back n (below n refl))
 
-  back_value : (v : ImageValue) → FitsValue v → IsBelow count v → value_back back (placed_value position (as_value v)) ≡ v
+  back_value : (v : ImageValue) → FitsImageValue v → NamesBelow count v → value_back back (placed_value position (as_value v)) ≡ v
   back_value (value.I32 n) fit below = ap value.I32 (ap (λ m. cast_signed w32 (cast_unsigned w32 m)) (to_z-of_z w32 n fit) ∙ to_z-of_z w32 n fit)
   back_value (value.I64 n) fit below = ap value.I64 (ap (λ m. cast_signed w64 (cast_unsigned w64 m)) (to_z-of_z w64 n fit) ∙ to_z-of_z w64 n fit)
   back_value (value.F32 n) fit below = refl
@@ -181,7 +181,7 @@ module _ (position back : ℕ → ℕ) (count : ℕ) (is_back : (n : ℕ) → n 
   back_value (value.V128 n) fit below = refl
   back_value (value.Ref class r) fit below = ap (value.Ref class) (back_reference r (λ n is. below n (ap (λ (x : ImageReference). number_named (value.Ref class x)) is)))
 
-  back_values : (vs : List ImageValue) → AllByRecursion FitsValue vs → AreBelow count vs → map (value_back back) (map (placed_value position) (map as_value vs)) ≡ vs
+  back_values : (vs : List ImageValue) → AllByRecursion FitsImageValue vs → AreBelow count vs → map (value_back back) (map (placed_value position) (map as_value vs)) ≡ vs
   back_values [] fit below = refl
   back_values (v ∷ vs) fit below = ap₂ (λ x xs. x ∷ xs) (back_value v fit.0 (below 0 v refl)) (back_values vs fit.1 (λ k w there. below (suc k) w there))
 

@@ -12,7 +12,7 @@ use Rattle.gc_image_write.specs.declared.walk.Frame.{Frame}
 use Rattle.gc_image_write.specs.declared.walk.Mark.{Mark}
 use Rattle.gc_image_write.specs.declared.walk.Mark.TheVariants.{Unseen, Open, Numbered}
 use Rattle.gc_image_write.specs.Order.{AreClosed, IsOrder, early_in, early_named, early_of, is_early_in}
-use Rattle.gc_image_write.specs.Walking.{AreEarlyBelow, CanVisit, Numbers, Visits, VisitsOne, WalkParts}
+use Rattle.gc_image_write.specs.Walking.{AreEarlyBelow, CanVisitMore, Numbers, LeavesIdle, VisitsOne, WalkParts}
 use Rattle.gc_image_write.proofs.WalkLemmas.{onward_both}
 
 -- what an early value names is an object
@@ -36,7 +36,7 @@ all_unseen (suc count) (suc x) m e = all_unseen count x m e
 
 module _ (early : ℕ → ℕ → Option ℕ) where
   -- nothing was visited yet
-  pub fresh_walk : (count : ℕ) (w : WalkParts) → w.marks ≡ replicate count Unseen → length w.marks ≡ count → w.order ≡ [] → w.stack ≡ [] → AreEarlyBelow early count → CanVisit early count w
+  pub fresh_walk : (count : ℕ) (w : WalkParts) → w.marks ≡ replicate count Unseen → length w.marks ≡ count → w.order ≡ [] → w.stack ≡ [] → AreEarlyBelow early count → CanVisitMore early count w
   fresh_walk count w marks long order stack below =
       let mark : (x : ℕ) (m : Mark) → slice_get w.marks x ≡ Some m → m ≡ Unseen = λ x m e. all_unseen count x m (sym (ap (λ (ms : List Mark). slice_get ms x) marks) ∙ e) in
       let unordered : (n x : ℕ) → slice_get w.order n ≡ Some x → ⊥ = λ n x e. none-some x (sym (ap (λ (xs : List ℕ). slice_get xs n) order) ∙ e) in
@@ -62,8 +62,8 @@ module _ (early : ℕ → ℕ → Option ℕ) where
 
   -- one more object has a number
   pub rest_more : (start old new : WalkParts) (object : ℕ) (went : Bool) → went ≡ true → VisitsOne early old new object went
-      → Visits early start old true × ((x : ℕ) → x < object → (n : ℕ) × (slice_get old.order n ≡ Some x))
-      → Visits early start new true × ((x : ℕ) → x < object + 1 → (n : ℕ) × (slice_get new.order n ≡ Some x))
+      → LeavesIdle early start old true × ((x : ℕ) → x < object → (n : ℕ) × (slice_get old.order n ≡ Some x))
+      → LeavesIdle early start new true × ((x : ℕ) → x < object + 1 → (n : ℕ) × (slice_get new.order n ≡ Some x))
   rest_more start old new object false is visited so_far = cc
   rest_more start old new object true is visited so_far = (
     (visited.0, onward_both start old new so_far.0.1 visited.1),

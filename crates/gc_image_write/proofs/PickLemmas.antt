@@ -5,7 +5,7 @@ use Rattle.std.specs.Option.{option_map}
 use Rattle.std.proofs.lemmas.Bool.{eq-eqb}
 use Rattle.std.proofs.lemmas.Option.{none-some, same_Some}
 use Rattle.gc_image.proofs.AlikeLemmas.{number_of}
-use Rattle.gc_image_write.specs.Visiting.{Stands}
+use Rattle.gc_image_write.specs.Visiting.{IsVisited}
 
 place_from : (x : ℕ) (xs : List ℕ) (p n : ℕ) → number_of xs p ≡ n → (nat_eq x p ≡ false) → number_of (x ∷ xs) p ≡ suc n
 place_from x xs p n is other = ap (λ b. cond b 0 (suc (number_of xs p))) other ∙ ap suc is
@@ -53,19 +53,19 @@ module _ {A : Type 0} (f : A → Option ℕ) where
   comes [] y n there = absurd (none-some y there)
   comes (x ∷ xs) y n there = comes_here x xs y (comes xs y) (f x) refl n there
 
-  pub from_filter : (xs : List A) (y : ℕ) → Stands (filter_map f xs) y → (n : ℕ) × (x : A) × ((slice_get xs n ≡ Some x) × (f x ≡ Some y))
+  pub from_filter : (xs : List A) (y : ℕ) → IsVisited (filter_map f xs) y → (n : ℕ) × (x : A) × ((slice_get xs n ≡ Some x) × (f x ≡ Some y))
   from_filter xs y stands = comes xs y stands.0 stands.1
 
-  behind : (o : Option ℕ) (ys : List ℕ) (y : ℕ) → Stands ys y → Stands (cons_option o ys) y
+  behind : (o : Option ℕ) (ys : List ℕ) (y : ℕ) → IsVisited ys y → IsVisited (cons_option o ys) y
   behind None ys y stands = stands
   behind (Some w) ys y stands = (suc stands.0, stands.1)
 
-  pub into_filter : (xs : List A) (n : ℕ) (x : A) (y : ℕ) → slice_get xs n ≡ Some x → f x ≡ Some y → Stands (filter_map f xs) y
+  pub into_filter : (xs : List A) (n : ℕ) (x : A) (y : ℕ) → slice_get xs n ≡ Some x → f x ≡ Some y → IsVisited (filter_map f xs) y
   into_filter [] n x y there is = absurd (none-some x there)
-  into_filter (z ∷ zs) zero x y there is = subst (λ o. Stands (cons_option o (filter_map f zs)) y) (sym (ap f (same_Some z x there) ∙ is)) (0, refl)
+  into_filter (z ∷ zs) zero x y there is = subst (λ o. IsVisited (cons_option o (filter_map f zs)) y) (sym (ap f (same_Some z x there) ∙ is)) (0, refl)
   into_filter (z ∷ zs) (suc n) x y there is = behind (f z) (filter_map f zs) y (into_filter zs n x y there is)
 
 -- names that are taken back
-pub map_back : (f g : ℕ → ℕ) (xs : List ℕ) → ((x : ℕ) → Stands xs x → g (f x) ≡ x) → map g (map f xs) ≡ xs
+pub map_back : (f g : ℕ → ℕ) (xs : List ℕ) → ((x : ℕ) → IsVisited xs x → g (f x) ≡ x) → map g (map f xs) ≡ xs
 map_back f g [] back = refl
 map_back f g (x ∷ xs) back = ap₂ (λ y ys. y ∷ ys) (back x (0, refl)) (map_back f g xs (λ y stands. back y (suc stands.0, stands.1)))

@@ -7,7 +7,7 @@ use Rattle.std.proofs.lemmas.Option.{none-some, slice_get-get_or, slice_get_with
 use Rattle.gc_view.specs.Reach.{Reachable, by_start, by_step}
 use Rattle.gc_image_write.specs.Order.{IsOrder}
 use Rattle.gc_image_write.specs.Renaming.{AreAllReached, IsWithin, Renames}
-use Rattle.gc_image_write.specs.Visiting.{Graph, Stands, Visited, Followed, over, along, Numbered, done, held, IsNumbering}
+use Rattle.gc_image_write.specs.Visiting.{Graph, IsVisited, Visited, Followed, over, along, Numbered, done, held, IsNumbering}
 use Rattle.gc_image_write.proofs.FewLemmas.{order_long}
 use Rattle.gc_image_write.proofs.RenameLemmas.{numbered_renamed, renamed_at, renamed_element}
 use Rattle.gc_image_write.proofs.VisitLemmas.{Extends, numbering_one, same_element, stands_still, visited_all, visited_known, visited_more, visited_none}
@@ -34,7 +34,7 @@ module _ (graph : Graph) where
 
   -- what the first of an order name stands in it
   abbrev HasNamed : ℕ → List ℕ → Type 0
-  HasNamed count order = (n x y : ℕ) → n < count → slice_get order n ≡ Some x → Stands (graph.named x) y → Stands order y
+  HasNamed count order = (n x y : ℕ) → n < count → slice_get order n ≡ Some x → IsVisited (graph.named x) y → IsVisited order y
 
   -- an element of a longer order whose number is one of the shorter
   old_element : (old new : List ℕ) (n x : ℕ) → Extends old new → n < length old → slice_get new n ≡ Some x → slice_get old n ≡ Some x
@@ -53,14 +53,14 @@ module _ (graph : Graph) where
       ⊎_elim
       (λ same.
       let is : z ≡ x = same_element mid n z x e (more n x (subst (λ k. slice_get order k ≡ Some x) (sym same) there)) in
-      visited_all graph.early v y (subst (λ w. Stands (graph.named w) y) is named))
+      visited_all graph.early v y (subst (λ w. IsVisited (graph.named w) y) is named))
       (λ other. has_still count order mid more (omega (arith, slice_get_within order count x there)) has n z y (omega (arith, below, other)) e named) (cases_eq n count)
 
   followed_has : {n : ℕ} {order after : List ℕ} → Followed graph.early graph.named n order after → HasNamed n order → HasNamed (length after) after
   followed_has {n} {order} (over at_end) has = λ k x y below e named. has k x y (omega (arith, below, at_end)) e named
   followed_has {n} {order} (along {x = x} {mid = mid} there v f) has = followed_has f (has_more n x order mid has there v)
 
-  numbered_has : {xs order after : List ℕ} → Numbered graph.early graph.named xs order after → HasNamed (length order) order → HasNamed (length after) after × ((x : ℕ) → Stands xs x → Stands after x)
+  numbered_has : {xs order after : List ℕ} → Numbered graph.early graph.named xs order after → HasNamed (length order) order → HasNamed (length after) after × ((x : ℕ) → IsVisited xs x → IsVisited after x)
   numbered_has done has = (has, λ x at. absurd (none-some x at.1))
   numbered_has {xs = z ∷ zs} {order} {after} (held {mid = mid} {next = next} v f rest) has =
       let later = numbered_has rest (followed_has f (has_still (length order) order mid (visited_more graph.early v) (omega arith) has)) in (
@@ -68,18 +68,18 @@ module _ (graph : Graph) where
         λ x at. first_or_later x at.0 at.1 (λ n e. later.1 x (n, e)) (stands_still next after z (numbered_more rest) (stands_still mid next z (followed_more f) (visited_all graph.early v z (0, refl)))),
       )
     where
-      first_or_later : (x n : ℕ) → slice_get (z ∷ zs) n ≡ Some x → ((k : ℕ) → slice_get zs k ≡ Some x → Stands after x) → Stands after z → Stands after x
-      first_or_later x zero e later first = subst (Stands after) (let both : Some z ≡ Some x = e in cc) first
+      first_or_later : (x n : ℕ) → slice_get (z ∷ zs) n ≡ Some x → ((k : ℕ) → slice_get zs k ≡ Some x → IsVisited after x) → IsVisited after z → IsVisited after x
+      first_or_later x zero e later first = subst (IsVisited after) (let both : Some z ≡ Some x = e in cc) first
       first_or_later x (suc n) e later first = later n e
 
-  reached_stands : (order : List ℕ) → HasNamed (length order) order → ((x : ℕ) → Stands graph.globals x → Stands order x) → {x : ℕ} → Reachable (Stands graph.globals) (λ y. Stands (graph.named y)) x
-      → Stands order x
+  reached_stands : (order : List ℕ) → HasNamed (length order) order → ((x : ℕ) → IsVisited graph.globals x → IsVisited order x) → {x : ℕ} → Reachable (IsVisited graph.globals) (λ y. IsVisited (graph.named y)) x
+      → IsVisited order x
   reached_stands order has globals {x} (by_start is) = globals x is
   reached_stands order has globals {x} (by_step {y = y} reached named) =
       let at = reached_stands order has globals reached in has at.0 y x (slice_get_within order at.0 y at.1) at.1 named
 
   -- each object that is reached stands behind the globals
-  pub all_stand : (count : ℕ) (order : List ℕ) → AreAllReached graph count → Numbered graph.early graph.named graph.globals [] order → (x : ℕ) → x < count → Stands order x
+  pub all_stand : (count : ℕ) (order : List ℕ) → AreAllReached graph count → Numbered graph.early graph.named graph.globals [] order → (x : ℕ) → x < count → IsVisited order x
   all_stand count order all numbered x low =
       let has = numbered_has numbered (λ n z y below e named. absurd (omega (arith, below))) in reached_stands order has.0 has.1 (all x low)
 
@@ -92,10 +92,10 @@ module _ (graph : Graph) where
 module _ (graph other : Graph) (count : ℕ) (name : ℕ → ℕ) (renames : Renames graph other count name) (within : IsWithin graph count) (all : AreAllReached graph count) where
   pub numbering_carried : (order : List ℕ) → IsNumbering graph count order → IsNumbering other count (map name order)
   numbering_carried order is =
-      let none : (x : ℕ) → Stands [] x → x < count = λ x stands. absurd (none-some x stands.1) in
+      let none : (x : ℕ) → IsVisited [] x → x < count = λ x stands. absurd (none-some x stands.1) in
       let carried = numbered_renamed graph count within other name renames is.globals within.globals none in
       let over : order ≡ is.reached = no_rest graph count order all is in
-      let stand : (y : ℕ) → Stands (range_with_len 0 count) y → Stands (map name is.reached) y =
+      let stand : (y : ℕ) → IsVisited (range_with_len 0 count) y → IsVisited (map name is.reached) y =
       λ y stands.
       let range = below_range 0 count stands.0 y stands.1 in
       let x = renames.onto y (omega (arith, range.0, range.1)) in

@@ -5,7 +5,7 @@ use Rattle.std.specs.Option.{option_map}
 use Rattle.std.proofs.lemmas.List.{length-map}
 use Rattle.std.proofs.lemmas.Option.{none-some, slice_get-map}
 use Rattle.gc_image_write.specs.Renaming.{IsWithin, Renames}
-use Rattle.gc_image_write.specs.Visiting.{Graph, Stands, Visited, none, known, fresh, Followed, over, along, Numbered, done, held}
+use Rattle.gc_image_write.specs.Visiting.{Graph, IsVisited, Visited, none, known, fresh, Followed, over, along, Numbered, done, held}
 use Rattle.gc_model.proofs.Lists.{slice_get-push_cases}
 
 -- an element of a list whose objects were renamed
@@ -22,7 +22,7 @@ pub renamed_at : (name : ℕ → ℕ) (xs : List ℕ) (n x : ℕ) → slice_get 
 renamed_at name xs n x e = slice_get-map name xs n ∙ ap (option_map name) e
 
 abbrev AreUnder : ℕ → List ℕ → Type 0
-AreUnder count xs = (x : ℕ) → Stands xs x → x < count
+AreUnder count xs = (x : ℕ) → IsVisited xs x → x < count
 
 under_push : (count : ℕ) (xs : List ℕ) (x : ℕ) → AreUnder count xs → x < count → AreUnder count (xs ++ x ∷ [])
 under_push count xs x all low y at = ⊎_elim (λ old. all y (at.0, old)) (λ new. subst (λ z. z < count) new.1 low) (slice_get-push_cases xs x at.0 y at.1)
@@ -40,7 +40,7 @@ module _ (graph : Graph) (count : ℕ) (within : IsWithin graph count) where
   followed_under {n} (along {x = x} there v f) all = followed_under f (visited_under v (λ y at. within.named x y (all x (n, there)) at) all)
 
   module _ (other : Graph) (name : ℕ → ℕ) (renames : Renames graph other count name) where
-    isnt_renamed : (order : List ℕ) (x : ℕ) → AreUnder count order → x < count → (¬ Stands order x) → ¬ Stands (map name order) (name x)
+    isnt_renamed : (order : List ℕ) (x : ℕ) → AreUnder count order → x < count → (¬ IsVisited order x) → ¬ IsVisited (map name order) (name x)
     isnt_renamed order x all low isnt at =
         let back = renamed_element name order at.0 (name x) at.1 in
         isnt (at.0, back.1.0 ∙ ap Some (renames.apart back.0 x (all back.0 (at.0, back.1.0)) low back.1.1))

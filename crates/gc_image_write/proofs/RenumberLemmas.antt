@@ -12,12 +12,12 @@ use Rattle.gc_image.specs.declared.image.GlobalLine.{GlobalLine}
 use Rattle.gc_image.specs.declared.image.ImageValue.{ImageValue}
 use Rattle.gc_image.specs.declared.image.ObjectLine.{ObjectLine}
 use Rattle.gc_image.specs.Parts.{ImageParts}
-use Rattle.gc_image.specs.Well.{AreReached, IsHeld, IsWellImage, as_object, line_values, number_named}
+use Rattle.gc_image.specs.Well.{GlobalsReachAll, GlobalHolds, IsWellImage, as_object, line_values, number_named}
 use Rattle.gc_image_write.specs.Graphs.{graph_of, held_by, named_in, values_in}
 use Rattle.gc_image_write.specs.InTurn.{IsInTurn}
 use Rattle.gc_image_write.specs.Order.{AreClosed, IsOrder, early_in, early_named, early_of, is_early_in}
 use Rattle.gc_image_write.specs.Renaming.{AreAllReached, IsWithin, Renames}
-use Rattle.gc_image_write.specs.Visiting.{Graph, IsNumbering, Stands}
+use Rattle.gc_image_write.specs.Visiting.{Graph, IsNumbering, IsVisited}
 use Rattle.gc_image_write.proofs.FewLemmas.{order_long}
 use Rattle.gc_image_write.proofs.GraphLemmas.{lines_reached, lines_within}
 use Rattle.gc_image_write.proofs.PickLemmas.{filter_renamed, map_cons}
@@ -27,21 +27,21 @@ use Rattle.gc_image_write.proofs.WordLemmas.{element}
 
 -- what is reached under other numbers is reached
 module _ (graph other : Graph) (count : ℕ) (name : ℕ → ℕ) (renames : Renames graph other count name) (within : IsWithin graph count) where
-  reached_at : {z : ℕ} → Reachable (Stands other.globals) (λ y. Stands (other.named y)) z
-      → (x : ℕ) × ((x < count) × ((name x ≡ z) × Reachable (Stands graph.globals) (λ y. Stands (graph.named y)) x))
+  reached_at : {z : ℕ} → Reachable (IsVisited other.globals) (λ y. IsVisited (other.named y)) z
+      → (x : ℕ) × ((x < count) × ((name x ≡ z) × Reachable (IsVisited graph.globals) (λ y. IsVisited (graph.named y)) x))
   reached_at {z} (by_start start) =
       let old = renamed_element name graph.globals start.0 z (ap (λ xs. slice_get xs start.0) (sym renames.globals) ∙ start.1) in
       (old.0, (within.globals old.0 (start.0, old.1.0), (old.1.1, by_start (start.0, old.1.0))))
   reached_at {z} (by_step {y = y} reached named) =
       let from = reached_at reached in
-      let here = subst (λ w. Stands (other.named w) z) (sym from.1.1.0) named in
+      let here = subst (λ w. IsVisited (other.named w) z) (sym from.1.1.0) named in
       let old = renamed_element name (graph.named from.0) here.0 z (ap (λ xs. slice_get xs here.0) (sym (renames.named from.0 from.1.0)) ∙ here.1) in
       (old.0, (within.named from.0 old.0 from.1.0 (here.0, old.1.0), (old.1.1, by_step from.1.1.1 (here.0, old.1.0))))
 
   pub reached_before : AreAllReached other count → ((x : ℕ) → x < count → name x < count) → AreAllReached graph count
   reached_before all low x below =
       let old = reached_at (all (name x) (low x below)) in
-      subst (Reachable (Stands graph.globals) (λ y. Stands (graph.named y))) (renames.apart old.0 x old.1.0 below old.1.1.0) old.1.1.1
+      subst (Reachable (IsVisited graph.globals) (λ y. IsVisited (graph.named y))) (renames.apart old.0 x old.1.0 below old.1.1.0) old.1.1.1
 
 -- values where each number is another
 module _ (number : ℕ → ℕ) (renumber : ImageValue → ImageValue) (names : (v : ImageValue) → number_named (renumber v) ≡ option_map number (number_named v)) where
@@ -75,7 +75,7 @@ module _ (number : ℕ → ℕ) (renumber : ImageValue → ImageValue) (names : 
   renumbered_held (g ∷ globals) other same =
       ap₂ cons_option (ap number_named (same g) ∙ names g.value) (renumbered_held globals other same) ∙ sym (map_cons number (number_named g.value) (held_by globals))
 
-  module _ (types : List Declaration) (objects : List ObjectLine) (globals : List GlobalLine) (closed : AreClosed objects) (held : (n : ℕ) → IsHeld globals n → n < length objects) (order : List ℕ)
+  module _ (types : List Declaration) (objects : List ObjectLine) (globals : List GlobalLine) (closed : AreClosed objects) (held : (n : ℕ) → GlobalHolds globals n → n < length objects) (order : List ℕ)
       (is_order : IsOrder (early_named types objects) (length objects) order) (places : (n x : ℕ) → slice_get order n ≡ Some x → number x ≡ n) (new : List ObjectLine)
       (lines : (n x : ℕ) (line : ObjectLine) → slice_get order n ≡ Some x → slice_get objects x ≡ Some line → (next : ObjectLine) × ((slice_get new n ≡ Some next) × IsRenumbered types line next))
       (other : GlobalLine → GlobalLine) (same : (g : GlobalLine) → (other g).value ≡ renumber g.value) where
@@ -111,7 +111,7 @@ module _ (number : ℕ → ℕ) (renumber : ImageValue → ImageValue) (names : 
     in_turn image well types_are objects_are globals_are long numbering =
         let counted : length new ≡ length objects = long ∙ order_long (early_named types objects) (length objects) order is_order in
         let within = lines_within types objects globals closed held in
-        let reached_new : AreReached new (map other globals) = subst (AreReached new) globals_are (subst (λ ls. AreReached ls image.globals) objects_are well.reached) in
+        let reached_new : GlobalsReachAll new (map other globals) = subst (GlobalsReachAll new) globals_are (subst (λ ls. GlobalsReachAll ls image.globals) objects_are well.reached) in
         let reached : AreAllReached (graph_of types new (map other globals)) (length objects) =
         subst (AreAllReached (graph_of types new (map other globals))) counted (lines_reached types new (map other globals) reached_new) in
         let all = reached_before (graph_of types objects globals) (graph_of types new (map other globals)) (length objects) number renames within reached place_low in

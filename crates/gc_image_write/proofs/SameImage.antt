@@ -16,7 +16,7 @@ use Rattle.gc_image.proofs.AlikeLemmas.{number_of}
 use Rattle.gc_image_write.specs.Graphs.{graph_of}
 use Rattle.gc_image_write.specs.InTurn.{ImagesInTurn, IsInTurn}
 use Rattle.gc_image_write.specs.Renaming.{Renames}
-use Rattle.gc_image_write.specs.Visiting.{IsNumbering, Stands}
+use Rattle.gc_image_write.specs.Visiting.{IsNumbering, IsVisited}
 use Rattle.gc_image_write.proofs.CommandBack.{commands_one}
 use Rattle.gc_image_write.proofs.FewLemmas.{few_apart}
 use Rattle.gc_image_write.proofs.GlobalBack.{lines_back}
@@ -53,7 +53,7 @@ module _ (t : Table ℕ) (one two : ImageParts) (i : Images t one) (j : Images t
       (back t one i f (j.position y), (at_one.0, ap (back t two j g) at_one.1 ∙ back_position t two j g y low))
 
   -- lists of numbers that name the same positions
-  carried : (xs ys : List ℕ) → ((y : ℕ) → Stands ys y → y < length two.objects) → map i.position xs ≡ map j.position ys → ys ≡ map name xs
+  carried : (xs ys : List ℕ) → ((y : ℕ) → IsVisited ys y → y < length two.objects) → map i.position xs ≡ map j.position ys → ys ≡ map name xs
   carried xs ys low same =
       sym (map_back j.position (back t two j g) ys (λ y stands. back_position t two j g y (low y stands))) ∙ ap (map (back t two j g)) (sym same) ∙ map-map (back t two j g) i.position xs
 

@@ -14,7 +14,7 @@ use Rattle.gc_commands.specs.declared.command.StorageWord.TheVariants as storage
 use Rattle.gc_commands.specs.declared.command.ValueWord.{ValueWord}
 use Rattle.gc_commands.specs.declared.command.ValueWord.TheVariants as value
 use Rattle.gc_commands.specs.Spelling.{FitsField, FitsHeap, FitsStorage, FitsValue, final_words, max_line, spelling, supertype_words, type_count}
-use Rattle.gc_commands.specs.Words.{field_text, heap_text, mutability_text, null_mark, storage_text, value_text}
+use Rattle.gc_commands.specs.Words.{field_text, heap_text, mutability_text, null_mark, storage_text, value_type_text}
 
 decimal_short : (n : ℕ) → n < type_count → length (decimal n) ≤ 10
 decimal_short n low = length-decimal-le 10 n (omega arith) (omega arith) (omega arith)
@@ -36,7 +36,7 @@ mark_short : (nullable : Bool) → length (null_mark nullable) ≤ 1
 mark_short true = omega arith
 mark_short false = omega arith
 
-value_short : (v : ValueWord) → FitsValue v → length (value_text v) ≤ 12
+value_short : (v : ValueWord) → FitsValue v → length (value_type_text v) ≤ 12
 value_short value.I32 fits = omega arith
 value_short value.I64 fits = omega arith
 value_short value.F32 fits = omega arith
@@ -105,5 +105,5 @@ array_short is_final supertype elem low fit = declared_short (codes "array") is_
 
 pub exn_short : (params : List ValueWord) → AllByRecursion FitsValue params → length params ≤ max_fields → length (spelling (command.Exn params)) ≤ max_line
 exn_short params fit few =
-    let all = joined_short (codes "exn" ∷ map value_text params) (omega arith, short_map FitsValue value_text (λ v fits. omega (arith, value_short v fits)) params fit) in
-    omega (arith, all, length-map params value_text, few)
+    let all = joined_short (codes "exn" ∷ map value_type_text params) (omega arith, short_map FitsValue value_type_text (λ v fits. omega (arith, value_short v fits)) params fit) in
+    omega (arith, all, length-map params value_type_text, few)

@@ -11,16 +11,16 @@ use Rattle.gc_types.specs.declared.value.ValType.{ValType}
 use Rattle.gc_types.specs.Declarable.{AreDeclared}
 use Rattle.gc_types.specs.Declarations.{Declaration, Shape, array_of, exn_of, func_of, kind_at, max_types, shape_kind, struct_of}
 use Rattle.gc_commands.specs.declared.command.Command.{Command}
-use Rattle.gc_image.specs.Declaring.{DeclareInTurn, Declares}
-use Rattle.gc_image.specs.Text.{FitsType}
+use Rattle.gc_image.specs.Declaring.{DeclareInTurn, CommandDeclares}
+use Rattle.gc_image.specs.Text.{FitsImageType}
 use Rattle.gc_model.proofs.Lists.{slice_get-push_cases}
-use Rattle.gc_image_write.specs.Plain.{ArePlain, IsPlain, IsPlainShape}
-use Rattle.gc_image_write.specs.TypeWords.{AreCommandsOf, Commanded}
+use Rattle.gc_image_write.specs.Plain.{ArePlain, IsPlainType, IsPlainShape}
+use Rattle.gc_image_write.specs.TypeWords.{AreTypeCommands, Commanded}
 
 -- one more command in turn
-turn_push : (types : List Declaration) (commands : List Command) (all : List Declaration) (command : Command) (d : Declaration) → DeclareInTurn types commands all → Declares all command d
+turn_push : (types : List Declaration) (commands : List Command) (all : List Declaration) (command : Command) (d : Declaration) → DeclareInTurn types commands all → CommandDeclares all command d
     → DeclareInTurn types (commands ++ command ∷ []) (all ++ d ∷ [])
-turn_push types [] all command d turn declares = (d, (subst (λ ts. Declares ts command d) (sym turn) declares, ap (λ ts. ts ++ d ∷ []) turn))
+turn_push types [] all command d turn declares = (d, (subst (λ ts. CommandDeclares ts command d) (sym turn) declares, ap (λ ts. ts ++ d ∷ []) turn))
 turn_push types (first ∷ commands) all command d turn declares = (turn.0, (turn.1.0, turn_push (types ++ turn.0 ∷ []) commands all command d turn.1.1 declares))
 
 fit_push : {A : Type 0} (P : A → Type 0) (xs : List A) (x : A) → AllByRecursion P xs → P x → AllByRecursion P (xs ++ x ∷ [])
@@ -29,7 +29,7 @@ fit_push P (y ∷ xs) x all here = (all.0, fit_push P xs x all.1 here)
 
 -- the commands of the types before the n-th, which are plain
 pub record CommandsSoFar (types : List Declaration) (n : ℕ) (commands : List Command) : Type 0 where
-  pub made : AreCommandsOf (take n types) commands
+  pub made : AreTypeCommands (take n types) commands
   pub plain : ArePlain (take n types)
 
 pub none_yet : (types : List Declaration) → CommandsSoFar types 0 []
@@ -41,19 +41,19 @@ one_more types n commands command d at so_far commanded =
     let below = slice_get_within types n d at in
     let same : get_or types n d ≡ d = let both : Some (get_or types n d) ≡ Some d = sym (slice_get-get_or types n d below) ∙ at in cc in
     let next : take (n + 1) types ≡ take n types ++ d ∷ [] = take_more types n d below ∙ ap (λ e. take n types ++ e ∷ []) same in
-    subst (λ ts. (AreCommandsOf ts (commands ++ command ∷ [])) × ArePlain ts → CommandsSoFar types (n + 1) (commands ++ command ∷ [])) next (λ both. record { made = both.0; plain = both.1 }) (
+    subst (λ ts. (AreTypeCommands ts (commands ++ command ∷ [])) × ArePlain ts → CommandsSoFar types (n + 1) (commands ++ command ∷ [])) next (λ both. record { made = both.0; plain = both.1 }) (
       record {
         declare = turn_push [] commands (take n types) command d so_far.made.declare commanded.1.declares;
-        fit = fit_push FitsType commands command so_far.made.fit commanded.1.fits;
+        fit = fit_push FitsImageType commands command so_far.made.fit commanded.1.fits;
       },
-      λ k e found. elim (slice_get-push_cases (take n types) d k e found) [ inl old ↦ so_far.plain k e old | inr new ↦ subst IsPlain new.1 commanded.0 ],
+      λ k e found. elim (slice_get-push_cases (take n types) d k e found) [ inl old ↦ so_far.plain k e old | inr new ↦ subst IsPlainType new.1 commanded.0 ],
     )
 
 -- all types were gone through
-pub all_told : (types : List Declaration) (n : ℕ) (commands : List Command) → length types ≤ n → CommandsSoFar types n commands → AreCommandsOf types commands × ArePlain types
+pub all_told : (types : List Declaration) (n : ℕ) (commands : List Command) → length types ≤ n → CommandsSoFar types n commands → AreTypeCommands types commands × ArePlain types
 all_told types n commands over so_far =
     let all = take_all n types over in
-    (subst (λ ts. AreCommandsOf ts commands) all so_far.made, subst ArePlain all so_far.plain)
+    (subst (λ ts. AreTypeCommands ts commands) all so_far.made, subst ArePlain all so_far.plain)
 
 pub few_declared : (types : List Declaration) → AreDeclared types → length types ≤ max_types
 few_declared [] declared = omega arith
@@ -98,7 +98,7 @@ an_exn (array_of elem) kind = cc
 an_exn (exn_of params) kind = (params, refl)
 an_exn (func_of params results) kind = cc
 
-pub a_function : (d : Declaration) → shape_kind d.shape ≡ kinds.Func → ¬ IsPlain d
+pub a_function : (d : Declaration) → shape_kind d.shape ≡ kinds.Func → ¬ IsPlainType d
 a_function d kind = by_shape d.shape kind
   where
     by_shape : (shape : Shape) → shape_kind shape ≡ kinds.Func → ¬ IsPlainShape shape

@@ -2,7 +2,7 @@
 use Rattle.std.proofs.Common.{◌≡◌, ℕ, ◌+◌, suc, zero, List, [], ◌∷◌, ◌++◌, length, Some, refl, sym, subst, ◌∙◌, arith}
 use Rattle.std.specs.List.{range_with_len, slice_get}
 use Rattle.std.proofs.lemmas.Option.{none-some, slice_get_within}
-use Rattle.gc_image_write.specs.Visiting.{Graph, Stands, Visited, none, known, fresh, Followed, over, along, Numbered, done, held, IsNumbering}
+use Rattle.gc_image_write.specs.Visiting.{Graph, IsVisited, Visited, none, known, fresh, Followed, over, along, Numbered, done, held, IsNumbering}
 use Rattle.gc_model.proofs.Lists.{slice_get-push_new, slice_get-push_old}
 
 pub visited_one : (early : ℕ → List ℕ) {xs order a b : List ℕ} → Visited early xs order a → Visited early xs order b → a ≡ b
@@ -42,7 +42,7 @@ numbering_one graph count order other is also =
 abbrev pub Extends : List ℕ → List ℕ → Type 0
 Extends old new = (n x : ℕ) → slice_get old n ≡ Some x → slice_get new n ≡ Some x
 
-pub stands_still : (old new : List ℕ) (x : ℕ) → Extends old new → Stands old x → Stands new x
+pub stands_still : (old new : List ℕ) (x : ℕ) → Extends old new → IsVisited old x → IsVisited new x
 stands_still old new x more at = (at.0, more at.0 x at.1)
 
 pub visited_more : (early : ℕ → List ℕ) {xs order after : List ℕ} → Visited early xs order after → Extends order after
@@ -51,20 +51,20 @@ visited_more early (known is v) n x e = visited_more early v n x e
 visited_more early (fresh {x = y} {mid = mid} isnt first v) n x e = visited_more early v n x (slice_get-push_old mid y n x (visited_more early first n x e))
 
 -- all that were visited stand in the order
-pub visited_all : (early : ℕ → List ℕ) {xs order after : List ℕ} → Visited early xs order after → (x : ℕ) → Stands xs x → Stands after x
+pub visited_all : (early : ℕ → List ℕ) {xs order after : List ℕ} → Visited early xs order after → (x : ℕ) → IsVisited xs x → IsVisited after x
 visited_all early none x at = absurd (none-some x at.1)
-visited_all early {xs = z ∷ zs} {order} {after} (known is v) x (zero, e) = subst (Stands after) (let both : Some z ≡ Some x = e in cc) (stands_still order after z (visited_more early v) is)
+visited_all early {xs = z ∷ zs} {order} {after} (known is v) x (zero, e) = subst (IsVisited after) (let both : Some z ≡ Some x = e in cc) (stands_still order after z (visited_more early v) is)
 visited_all early {xs = z ∷ zs} {order} {after} (known is v) x (suc n, e) = visited_all early v x (n, e)
 visited_all early {xs = z ∷ zs} {order} {after} (fresh {mid = mid} isnt first v) x (zero, e) =
-    subst (Stands after) (let both : Some z ≡ Some x = e in cc) (length mid, visited_more early v (length mid) z (slice_get-push_new mid z))
+    subst (IsVisited after) (let both : Some z ≡ Some x = e in cc) (length mid, visited_more early v (length mid) z (slice_get-push_new mid z))
 visited_all early {xs = z ∷ zs} {order} {after} (fresh isnt first v) x (suc n, e) = visited_all early v x (n, e)
 
 -- where all stood in the order already, it stays
-pub visited_none : (early : ℕ → List ℕ) {xs order after : List ℕ} → Visited early xs order after → ((x : ℕ) → Stands xs x → Stands order x) → after ≡ order
+pub visited_none : (early : ℕ → List ℕ) {xs order after : List ℕ} → Visited early xs order after → ((x : ℕ) → IsVisited xs x → IsVisited order x) → after ≡ order
 visited_none early none all = refl
 visited_none early (known is v) all = visited_none early v (λ x at. all x (suc at.0, at.1))
 visited_none early (fresh {x = x} isnt first v) all = absurd (isnt (all x (0, refl)))
 
-pub visited_known : (early : ℕ → List ℕ) (xs order : List ℕ) → ((x : ℕ) → Stands xs x → Stands order x) → Visited early xs order order
+pub visited_known : (early : ℕ → List ℕ) (xs order : List ℕ) → ((x : ℕ) → IsVisited xs x → IsVisited order x) → Visited early xs order order
 visited_known early [] order all = none
 visited_known early (x ∷ xs) order all = known (all x (0, refl)) (visited_known early xs order (λ y stands. all y (suc stands.0, stands.1)))

@@ -11,7 +11,7 @@ use Rattle.gc_image_write.specs.declared.walk.Frame.{Frame}
 use Rattle.gc_image_write.specs.declared.walk.Mark.{Mark}
 use Rattle.gc_image_write.specs.declared.walk.Mark.TheVariants.{Unseen, Open, Numbered}
 use Rattle.gc_image_write.specs.Order.{AreTangled}
-use Rattle.gc_image_write.specs.Walking.{CanVisit, IsIdle, IsWalk, Onward, Visits, VisitsOne, WalkParts, waiting}
+use Rattle.gc_image_write.specs.Walking.{CanVisitMore, IsIdle, IsWalk, Onward, LeavesIdle, VisitsOne, WalkParts, waiting}
 use Rattle.gc_image_write.proofs.WordLemmas.{element}
 
 pub onward_same : (w : WalkParts) → Onward w w
@@ -309,23 +309,23 @@ module _ (early : ℕ → ℕ → Option ℕ) where
       (subst (λ (v : WalkParts). IsWalk early v × Onward start v × (¬ (slice_get v.marks x ≡ Some Unseen))) same so_far)
 
   -- visits go on
-  pub visits_one : (old new : WalkParts) (x : ℕ) (went : Bool) → VisitsOne early old new x went → Visits early old new went
+  pub visits_one : (old new : WalkParts) (x : ℕ) (went : Bool) → VisitsOne early old new x went → LeavesIdle early old new went
   visits_one old new x true visited = (visited.0, visited.1)
   visits_one old new x false visited = visited
 
-  pub visits_same : (w : WalkParts) → IsIdle early w → Visits early w w true
+  pub visits_same : (w : WalkParts) → IsIdle early w → LeavesIdle early w w true
   visits_same w idle = (idle, onward_same w)
 
-  pub visits_both : (old mid new : WalkParts) → Visits early old mid true → Visits early mid new true → Visits early old new true
+  pub visits_both : (old mid new : WalkParts) → LeavesIdle early old mid true → LeavesIdle early mid new true → LeavesIdle early old new true
   visits_both old mid new a b = (b.0, onward_both old mid new a.1 b.1)
 
-  pub visits_then : (old mid new : WalkParts) (went : Bool) → Visits early old mid true → Visits early mid new went → Visits early old new went
+  pub visits_then : (old mid new : WalkParts) (went : Bool) → LeavesIdle early old mid true → LeavesIdle early mid new went → LeavesIdle early old new went
   visits_then old mid new true a b = visits_both old mid new a b
   visits_then old mid new false a b = b
 
-  pub visits_went : (old mid new : WalkParts) (went : Bool) → went ≡ true → Visits early old mid true → Visits early mid new went → Visits early old new true
+  pub visits_went : (old mid new : WalkParts) (went : Bool) → went ≡ true → LeavesIdle early old mid true → LeavesIdle early mid new went → LeavesIdle early old new true
   visits_went old mid new true is a b = visits_both old mid new a b
   visits_went old mid new false is a b = absurd (cc is)
 
-  pub can_go_on : (count : ℕ) (old new : WalkParts) → CanVisit early count old → Visits early old new true → CanVisit early count new
+  pub can_go_on : (count : ℕ) (old new : WalkParts) → CanVisitMore early count old → LeavesIdle early old new true → CanVisitMore early count new
   can_go_on count old new can visited = record { below = can.below; idle = visited.0; long = visited.1.long ∙ can.long }

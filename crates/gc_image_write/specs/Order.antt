@@ -50,8 +50,8 @@ AreClosed objects =
     → number_named v ≡ Some named → named < length objects
 
 -- what a value names is among so many objects, and so what the values of a line name
-abbrev pub IsBelow : ℕ → ImageValue → Type 0
-IsBelow count v = (number : ℕ) → number_named v ≡ Some number → number < count
+abbrev pub NamesBelow : ℕ → ImageValue → Type 0
+NamesBelow count v = (number : ℕ) → number_named v ≡ Some number → number < count
 
 abbrev pub AreBelow : ℕ → List ImageValue → Type 0
-AreBelow count values = (k : ℕ) (v : ImageValue) → slice_get values k ≡ Some v → IsBelow count v
+AreBelow count values = (k : ℕ) (v : ImageValue) → slice_get values k ≡ Some v → NamesBelow count v

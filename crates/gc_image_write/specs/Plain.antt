@@ -36,8 +36,8 @@ IsPlainShape (array_of elem) = IsPlainField elem
 IsPlainShape (exn_of params) = All IsPlainVal params
 IsPlainShape (func_of params results) = ⊥
 
-abbrev pub IsPlain : Declaration → Type 0
-IsPlain d = IsPlainShape d.shape
+abbrev pub IsPlainType : Declaration → Type 0
+IsPlainType d = IsPlainShape d.shape
 
 abbrev pub ArePlain : List Declaration → Type 0
-ArePlain types = (n : ℕ) (d : Declaration) → slice_get types n ≡ Some d → IsPlain d
+ArePlain types = (n : ℕ) (d : Declaration) → slice_get types n ≡ Some d → IsPlainType d

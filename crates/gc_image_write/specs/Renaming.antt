@@ -1,17 +1,17 @@
 -- Graphs that are one but for the numbers of their objects.
 use Rattle.std.specs.Prelude.{◌≡◌, ℕ, ◌<◌, map}
 use Rattle.gc_view.specs.Reach.{Reachable}
-use Rattle.gc_image_write.specs.Visiting.{Graph, Stands}
+use Rattle.gc_image_write.specs.Visiting.{Graph, IsVisited}
 
 -- what a graph names are some of so many objects
 pub record IsWithin (graph : Graph) (count : ℕ) : Type 0 where
-  pub early : (x y : ℕ) → x < count → Stands (graph.early x) y → y < count
-  pub named : (x y : ℕ) → x < count → Stands (graph.named x) y → y < count
-  pub globals : (y : ℕ) → Stands graph.globals y → y < count
+  pub early : (x y : ℕ) → x < count → IsVisited (graph.early x) y → y < count
+  pub named : (x y : ℕ) → x < count → IsVisited (graph.named x) y → y < count
+  pub globals : (y : ℕ) → IsVisited graph.globals y → y < count
 
 -- the globals reach each of so many objects
 abbrev pub AreAllReached : Graph → ℕ → Type 0
-AreAllReached graph count = (x : ℕ) → x < count → Reachable (Stands graph.globals) (λ y. Stands (graph.named y)) x
+AreAllReached graph count = (x : ℕ) → x < count → Reachable (IsVisited graph.globals) (λ y. IsVisited (graph.named y)) x
 
 -- Each of so many objects of a graph has another number in another graph, which has the same references and the same globals there.
 pub record Renames (graph other : Graph) (count : ℕ) (name : ℕ → ℕ) : Type 0 where

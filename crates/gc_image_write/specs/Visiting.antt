@@ -9,15 +9,15 @@ pub record Graph : Type 0 where
   pub named : ℕ → List ℕ
   pub globals : List ℕ
 
-abbrev pub Stands : List ℕ → ℕ → Type 0
-Stands order x = (n : ℕ) × (slice_get order n ≡ Some x)
+abbrev pub IsVisited : List ℕ → ℕ → Type 0
+IsVisited order x = (n : ℕ) × (slice_get order n ≡ Some x)
 
 -- Objects are visited one after another, which makes an order a longer one. One that stands in it is passed over. Another is put at
 -- its end, once those are visited that it must have from the start.
 pub data Visited (early : ℕ → List ℕ) : List ℕ → List ℕ → List ℕ → Type 0 where
   none : {order : List ℕ} → Visited early [] order order
-  known : {x : ℕ} {xs order after : List ℕ} → Stands order x → Visited early xs order after → Visited early (x ∷ xs) order after
-  fresh : {x : ℕ} {xs order mid after : List ℕ} → (¬ Stands order x) → Visited early (early x) order mid → Visited early xs (mid ++ x ∷ []) after
+  known : {x : ℕ} {xs order after : List ℕ} → IsVisited order x → Visited early xs order after → Visited early (x ∷ xs) order after
+  fresh : {x : ℕ} {xs order mid after : List ℕ} → (¬ IsVisited order x) → Visited early (early x) order mid → Visited early xs (mid ++ x ∷ []) after
       → Visited early (x ∷ xs) order after
 
 -- From the n-th of the order on, what each object names is visited, until none is left in it.

@@ -15,8 +15,8 @@ pub record WalkParts : Type 0 where
   pub order : List ℕ
   pub stack : List Frame
 
-abbrev pub parts : Walk → WalkParts
-parts w = record { marks = w.marks.items; order = w.order.items; stack = w.stack.items }
+abbrev pub walk_parts : Walk → WalkParts
+walk_parts w = record { marks = w.marks.items; order = w.order.items; stack = w.stack.items }
 
 -- the same with one more that waits
 abbrev pub waiting : WalkParts → Frame → WalkParts
@@ -58,9 +58,9 @@ pub record IsIdle (early : ℕ → ℕ → Option ℕ) (w : WalkParts) : Type 0 
   pub idle : w.stack ≡ []
 
 -- what visits leave: a walk in which none waits, or objects that need each other
-abbrev pub Visits : (ℕ → ℕ → Option ℕ) → WalkParts → WalkParts → Bool → Type 0
-Visits early old new true = IsIdle early new × Onward old new
-Visits early old new false = AreTangled early
+abbrev pub LeavesIdle : (ℕ → ℕ → Option ℕ) → WalkParts → WalkParts → Bool → Type 0
+LeavesIdle early old new true = IsIdle early new × Onward old new
+LeavesIdle early old new false = AreTangled early
 
 -- so, and the object has a number
 abbrev pub VisitsOne : (ℕ → ℕ → Option ℕ) → WalkParts → WalkParts → ℕ → Bool → Type 0
@@ -68,14 +68,14 @@ VisitsOne early old new object true = IsIdle early new × Onward old new × ((n 
 VisitsOne early old new object false = AreTangled early
 
 -- visits can begin or go on: none waits, and there is a mark for each of so many objects
-pub record CanVisit (early : ℕ → ℕ → Option ℕ) (count : ℕ) (w : WalkParts) : Type 0 where
+pub record CanVisitMore (early : ℕ → ℕ → Option ℕ) (count : ℕ) (w : WalkParts) : Type 0 where
   pub below : AreEarlyBelow early count
   pub idle : IsIdle early w
   pub long : length w.marks ≡ count
 
 -- all objects have numbers up to one of them
 pub record AreNumbered (early : ℕ → ℕ → Option ℕ) (count : ℕ) (w : WalkParts) : Type 0 where
-  pub can : CanVisit early count w
+  pub can : CanVisitMore early count w
   pub all : (x : ℕ) → x < count → (n : ℕ) × (slice_get w.order n ≡ Some x)
 
 abbrev pub Numbers : (ℕ → ℕ → Option ℕ) → ℕ → WalkParts → Bool → Type 0
@@ -83,15 +83,15 @@ Numbers early count new true = AreNumbered early count new
 Numbers early count new false = AreTangled early
 
 -- what one that waits has yet to visit, from its index on
-abbrev pub left_of : (ℕ → ℕ → Option ℕ) → (ℕ → ℕ) → Frame → List ℕ
-left_of early counts f = filter_map (early f.object) (range_with_len f.next (counts f.object - f.next))
+abbrev pub left_to_visit : (ℕ → ℕ → Option ℕ) → (ℕ → ℕ) → Frame → List ℕ
+left_to_visit early counts f = filter_map (early f.object) (range_with_len f.next (counts f.object - f.next))
 
 -- From an order those that wait finish in another: the last first, each with what it has yet to visit and then its own number.
-abbrev pub Finishes : (ℕ → ℕ → Option ℕ) → (ℕ → ℕ) → List Frame → List ℕ → List ℕ → Type 0
-Finishes early counts [] order after = order ≡ after
-Finishes early counts (f ∷ stack) order after = (mid : List ℕ) × (ready : List ℕ)
-    × (Finishes early counts stack order mid × (Visited (early_list early counts) (left_of early counts f) mid ready × (ready ++ f.object ∷ [] ≡ after)))
+abbrev pub FinishesWalk : (ℕ → ℕ → Option ℕ) → (ℕ → ℕ) → List Frame → List ℕ → List ℕ → Type 0
+FinishesWalk early counts [] order after = order ≡ after
+FinishesWalk early counts (f ∷ stack) order after = (mid : List ℕ) × (ready : List ℕ)
+    × (FinishesWalk early counts stack order mid × (Visited (early_list early counts) (left_to_visit early counts f) mid ready × (ready ++ f.object ∷ [] ≡ after)))
 
 -- in whatever those that wait finish from here, they finished in from there
-abbrev pub Leads : (ℕ → ℕ → Option ℕ) → (ℕ → ℕ) → WalkParts → WalkParts → Type 0
-Leads early counts old new = (after : List ℕ) → Finishes early counts new.stack new.order after → Finishes early counts old.stack old.order after
+abbrev pub FinishesAlike : (ℕ → ℕ → Option ℕ) → (ℕ → ℕ) → WalkParts → WalkParts → Type 0
+FinishesAlike early counts old new = (after : List ℕ) → FinishesWalk early counts new.stack new.order after → FinishesWalk early counts old.stack old.order after

@@ -5,7 +5,7 @@ ghost use Rattle.gc_types.specs.declared.value.FieldType.{FieldType};
 ghost use Rattle.gc_types.specs.declared.value.ValType.{ValType};
 ghost use Rattle.gc_types.specs.Declarations.{Declaration, array_of, exn_of, struct_of};
 ghost use Rattle.gc_image_write.specs.Plain.{ArePlain};
-ghost use Rattle.gc_image_write.specs.TypeWords.{AreCommandsOf, Commanded};
+ghost use Rattle.gc_image_write.specs.TypeWords.{AreTypeCommands, Commanded};
 
 use crate::type_words::{elem_word, field_words, param_words};
 use gc_commands::{Command, FieldWords, ValueWords};
@@ -15,7 +15,7 @@ use std::alloc::{AllocError, Global};
 /// The commands that declare the types of a table in turn. None where one of them is a function type, or has a field, an
 /// element or a parameter that holds functions or continuations. Takes time and memory linear in the types' fields.
 pub fn commands_of(alloc: Global, types: &Types) -> Result<Option<Vec<Command>>, AllocError>
-    ensures declare { IfOk result (λ found. IfSome found (λ commands. AreCommandsOf types.now.declarations commands.items)) }
+    ensures declare { IfOk result (λ found. IfSome found (λ commands. AreTypeCommands types.now.declarations commands.items)) }
     ensures plain { IfOk result (λ found. IsSome found ↔ ArePlain types.now.declarations) }
 {
     types.are_declared();

@@ -1,5 +1,7 @@
-//! What saving an image is made of: the commands that declare a table's types, the order of its objects, and its text. It
-//! knows nothing of heaps and stores.
+//! What saving an image is made of: the commands that declare a table's types, the order of its objects, and its text.
+//!
+//! It promises the order and the text of a graph of lines, and knows nothing of heaps and stores: what walks a store's
+//! objects stands above.
 #![tactic(auto)]
 
 mod commands;

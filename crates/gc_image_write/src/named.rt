@@ -2,15 +2,15 @@
 
 ghost use Rattle.std.specs.Prelude.{◌≡◌, ◌<◌, ℕ, Some, IsTrue, length, slice_get};
 ghost use Rattle.gc_image.specs.declared.image.ImageValue.{ImageValue};
-ghost use Rattle.gc_image.specs.Well.{IsHeld, number_named};
-ghost use Rattle.gc_image_write.specs.Order.{AreBelow, AreClosed, IsBelow};
+ghost use Rattle.gc_image.specs.Well.{GlobalHolds, number_named};
+ghost use Rattle.gc_image_write.specs.Order.{AreBelow, AreClosed, NamesBelow};
 
 use gc_image::{GlobalLine, ImageValue, ObjectLine, number_named, values_of};
 
 /// Whether each number that an object or a global names is one of an object. Takes time linear in the values.
 pub fn are_numbers_below(objects: &[ObjectLine], globals: &[GlobalLine]) -> bool
     ensures closed { IsTrue result → AreClosed objects.now }
-    ensures held { IsTrue result → (number : ℕ) → IsHeld globals.now number → number < length objects.now }
+    ensures held { IsTrue result → (number : ℕ) → GlobalHolds globals.now number → number < length objects.now }
 {
     are_objects_below(objects) && are_globals_below(globals, objects.len())
 }
@@ -29,7 +29,7 @@ fn are_objects_below(objects: &[ObjectLine]) -> bool
 
 /// Whether what the globals hold is among so many objects.
 fn are_globals_below(globals: &[GlobalLine], count: usize) -> bool
-    ensures { IsTrue result → (number : ℕ) → IsHeld globals.now number → number < count }
+    ensures { IsTrue result → (number : ℕ) → GlobalHolds globals.now number → number < count }
 {
     for global in globals {
         if !is_below(&global.value, count) {
@@ -53,7 +53,7 @@ fn are_below(values: &[ImageValue], count: usize) -> bool
 
 /// Whether what a value names is among so many objects.
 fn is_below(value: &ImageValue, count: usize) -> bool
-    ensures { IsTrue result → IsBelow count value.now }
+    ensures { IsTrue result → NamesBelow count value.now }
 {
     match number_named(value) {
         Some(number) => number < count,

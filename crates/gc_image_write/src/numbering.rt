@@ -3,11 +3,11 @@
 ghost use Rattle.std.specs.Prelude.{◌≡◌, ◌<◌, ◌∷◌, [], ℕ, Some, true, IfOk, IfSome, IfNone, length, slice_get};
 ghost use Rattle.std.specs.List.{range_with_len};
 ghost use Rattle.gc_image.specs.declared.image.ImageValue.{ImageValue};
-ghost use Rattle.gc_image.specs.Well.{IsHeld, number_named};
+ghost use Rattle.gc_image.specs.Well.{GlobalHolds, number_named};
 ghost use Rattle.gc_image_write.specs.Graphs.{early_values, graph_of, held_by, named_in, named_values};
 ghost use Rattle.gc_image_write.specs.Order.{AreClosed, AreTangled, IsOrder, early_named};
 ghost use Rattle.gc_image_write.specs.Visiting.{Followed, IsNumbering, Numbered, Visited};
-ghost use Rattle.gc_image_write.specs.Walking.{CanVisit, Numbers, Visits, parts};
+ghost use Rattle.gc_image_write.specs.Walking.{CanVisitMore, Numbers, LeavesIdle, walk_parts};
 
 use crate::walk::{Mark, Walk, visit};
 use gc_image::{GlobalLine, ImageValue, ObjectLine, number_named, values_of};
@@ -27,7 +27,7 @@ pub fn order_of(
     globals: &[GlobalLine],
 ) -> Result<Option<Vec<usize>>, AllocError>
     requires closed { AreClosed objects.now }
-    requires held { (number : ℕ) → IsHeld globals.now number → number < length objects.now }
+    requires held { (number : ℕ) → GlobalHolds globals.now number → number < length objects.now }
     ensures some { IfOk result (λ found. IfSome found (λ order. IsOrder (early_named types.now.declarations objects.now) (length objects.now) order.items)) }
     ensures numbered { IfOk result (λ found. IfSome found (λ order.
         IsNumbering (graph_of types.now.declarations objects.now globals.now) (length objects.now) order.items)) }
@@ -54,10 +54,10 @@ fn visit_globals(
     objects: &[ObjectLine],
     globals: &[GlobalLine],
 ) -> Result<bool, AllocError>
-    requires can { CanVisit (early_named types.now.declarations objects.now) (length objects.now) (parts walk.old) }
+    requires can { CanVisitMore (early_named types.now.declarations objects.now) (length objects.now) (walk_parts walk.old) }
     requires closed { AreClosed objects.now }
-    requires held { (number : ℕ) → IsHeld globals.now number → number < length objects.now }
-    ensures visits { IfOk result (Visits (early_named types.now.declarations objects.now) (parts walk.old) (parts walk.new)) }
+    requires held { (number : ℕ) → GlobalHolds globals.now number → number < length objects.now }
+    ensures visits { IfOk result (LeavesIdle (early_named types.now.declarations objects.now) (walk_parts walk.old) (walk_parts walk.new)) }
     ensures numbered { IfOk result (λ went. went ≡ true
         → Numbered (early_values types.now.declarations objects.now) (named_values objects.now) (held_by globals.now)
         walk.old.order.items walk.new.order.items) }
@@ -81,9 +81,9 @@ fn follow(
     objects: &[ObjectLine],
     from: usize,
 ) -> Result<bool, AllocError>
-    requires can { CanVisit (early_named types.now.declarations objects.now) (length objects.now) (parts walk.old) }
+    requires can { CanVisitMore (early_named types.now.declarations objects.now) (length objects.now) (walk_parts walk.old) }
     requires closed { AreClosed objects.now }
-    ensures visits { IfOk result (Visits (early_named types.now.declarations objects.now) (parts walk.old) (parts walk.new)) }
+    ensures visits { IfOk result (LeavesIdle (early_named types.now.declarations objects.now) (walk_parts walk.old) (walk_parts walk.new)) }
     ensures followed { IfOk result (λ went. went ≡ true → Followed (early_values types.now.declarations objects.now) (named_values objects.now) from
         walk.old.order.items walk.new.order.items) }
 {
@@ -106,9 +106,9 @@ fn visit_named(
     objects: &[ObjectLine],
     object: usize,
 ) -> Result<bool, AllocError>
-    requires can { CanVisit (early_named types.now.declarations objects.now) (length objects.now) (parts walk.old) }
+    requires can { CanVisitMore (early_named types.now.declarations objects.now) (length objects.now) (walk_parts walk.old) }
     requires closed { AreClosed objects.now }
-    ensures visits { IfOk result (Visits (early_named types.now.declarations objects.now) (parts walk.old) (parts walk.new)) }
+    ensures visits { IfOk result (LeavesIdle (early_named types.now.declarations objects.now) (walk_parts walk.old) (walk_parts walk.new)) }
     ensures visited { IfOk result (λ went. went ≡ true → Visited (early_values types.now.declarations objects.now) (named_values objects.now object)
         walk.old.order.items walk.new.order.items) }
 {
@@ -125,9 +125,9 @@ fn visit_values(
     objects: &[ObjectLine],
     values: &[ImageValue],
 ) -> Result<bool, AllocError>
-    requires can { CanVisit (early_named types.now.declarations objects.now) (length objects.now) (parts walk.old) }
+    requires can { CanVisitMore (early_named types.now.declarations objects.now) (length objects.now) (walk_parts walk.old) }
     requires named { (index number : ℕ) (v : ImageValue) → slice_get values.now index ≡ Some v → number_named v ≡ Some number → number < length objects.now }
-    ensures visits { IfOk result (Visits (early_named types.now.declarations objects.now) (parts walk.old) (parts walk.new)) }
+    ensures visits { IfOk result (LeavesIdle (early_named types.now.declarations objects.now) (walk_parts walk.old) (walk_parts walk.new)) }
     ensures visited { IfOk result (λ went. went ≡ true → Visited (early_values types.now.declarations objects.now) (named_in values.now)
         walk.old.order.items walk.new.order.items) }
 {
@@ -146,9 +146,9 @@ fn visit_value(
     objects: &[ObjectLine],
     value: &ImageValue,
 ) -> Result<bool, AllocError>
-    requires can { CanVisit (early_named types.now.declarations objects.now) (length objects.now) (parts walk.old) }
+    requires can { CanVisitMore (early_named types.now.declarations objects.now) (length objects.now) (walk_parts walk.old) }
     requires named { (number : ℕ) → number_named value.now ≡ Some number → number < length objects.now }
-    ensures visits { IfOk result (Visits (early_named types.now.declarations objects.now) (parts walk.old) (parts walk.new)) }
+    ensures visits { IfOk result (LeavesIdle (early_named types.now.declarations objects.now) (walk_parts walk.old) (walk_parts walk.new)) }
     ensures visited { IfOk result (λ went. went ≡ true → Visited (early_values types.now.declarations objects.now) (named_in (value.now ∷ []))
         walk.old.order.items walk.new.order.items) }
 {
@@ -160,8 +160,8 @@ fn visit_value(
 
 /// Visits each object, so that none is left without a number.
 fn visit_rest(walk: &mut Walk, types: &Types, objects: &[ObjectLine]) -> Result<bool, AllocError>
-    requires { CanVisit (early_named types.now.declarations objects.now) (length objects.now) (parts walk.old) }
-    ensures all { IfOk result (Numbers (early_named types.now.declarations objects.now) (length objects.now) (parts walk.new)) }
+    requires { CanVisitMore (early_named types.now.declarations objects.now) (length objects.now) (walk_parts walk.old) }
+    ensures all { IfOk result (Numbers (early_named types.now.declarations objects.now) (length objects.now) (walk_parts walk.new)) }
     ensures visited { IfOk result (λ went. went ≡ true → Visited (early_values types.now.declarations objects.now) (range_with_len 0 (length objects.now))
         walk.old.order.items walk.new.order.items) }
 {

@@ -4,7 +4,7 @@ ghost use Rattle.std.specs.Prelude.{◌≡◌, ◌++◌, ◌∷◌, ◌≤◌, O
 ghost use Rattle.std.specs.Fmt.{decimal};
 ghost use Rattle.gc_commands.specs.Words.{hex_digits};
 ghost use Rattle.gc_image.specs.Text.{class_text, global_text, object_text, reference_text, value_text};
-ghost use Rattle.gc_image_write.specs.Writing.{spaced};
+ghost use Rattle.gc_image_write.specs.Writing.{spaced_texts};
 
 use gc_commands::{push_bytes, push_hex};
 use gc_image::{GlobalLine, ImageReference, ImageValue, ObjectLine};
@@ -46,7 +46,7 @@ pub(crate) fn push_global(text: &mut String, global: &GlobalLine) -> Result<(), 
 
 /// Appends values with a space in front of each.
 fn push_values(text: &mut String, values: &[ImageValue]) -> Result<(), AllocError>
-    ensures { OnOk result (string_bytes text.new ≡ string_bytes text.old ++ spaced value_text values.now) }
+    ensures { OnOk result (string_bytes text.new ≡ string_bytes text.old ++ spaced_texts value_text values.now) }
 {
     for value in values {
         text.push(' ')?;

@@ -7,7 +7,7 @@ ghost use Rattle.gc_image.specs.Well.{as_object};
 ghost use Rattle.gc_image_write.specs.Graphs.{early_values, value_count};
 ghost use Rattle.gc_image_write.specs.Order.{early_named, is_early_in};
 ghost use Rattle.gc_image_write.specs.Visiting.{Visited};
-ghost use Rattle.gc_image_write.specs.Walking.{AreEarlyBelow, IsIdle, IsWalk, Leads, Onward, VisitsOne, Went, parts, waiting};
+ghost use Rattle.gc_image_write.specs.Walking.{AreEarlyBelow, IsIdle, IsWalk, FinishesAlike, Onward, VisitsOne, Went, walk_parts, waiting};
 
 use gc_image::{ObjectLine, is_early, number_named, value_type, values_of};
 use gc_types::Types;
@@ -73,7 +73,7 @@ fn value_count(objects: &[ObjectLine], object: usize) -> usize
 /// Opens an object that wasn't seen: it waits behind the others.
 fn open(walk: &mut Walk, object: usize) -> Result<(), AllocError>
     requires { object < length walk.old.marks.items }
-    ensures { OnOk result (parts walk.new ≡ record {
+    ensures { OnOk result (walk_parts walk.new ≡ record {
       marks = slice_set walk.old.marks.items object Mark.Open;
       order = walk.old.order.items;
       stack = walk.old.stack.items ++ record { object = object; next = 0 } ∷ [];
@@ -86,7 +86,7 @@ fn open(walk: &mut Walk, object: usize) -> Result<(), AllocError>
 /// Gives the next number to an object that waits no longer.
 fn close(walk: &mut Walk, object: usize) -> Result<(), AllocError>
     requires { object < length walk.old.marks.items }
-    ensures { OnOk result (parts walk.new ≡ record {
+    ensures { OnOk result (walk_parts walk.new ≡ record {
       marks = slice_set walk.old.marks.items object Mark.Numbered;
       order = walk.old.order.items ++ object ∷ [];
       stack = walk.old.stack.items;
@@ -99,7 +99,7 @@ fn close(walk: &mut Walk, object: usize) -> Result<(), AllocError>
 
 /// Lets an object wait with another index.
 fn wait(walk: &mut Walk, frame: Frame) -> Result<(), AllocError>
-    ensures { OnOk result (parts walk.new ≡ waiting (parts walk.old) frame) }
+    ensures { OnOk result (walk_parts walk.new ≡ waiting (walk_parts walk.old) frame) }
 {
     walk.stack.extend_from_slice(&[frame])
 }
@@ -107,7 +107,7 @@ fn wait(walk: &mut Walk, frame: Frame) -> Result<(), AllocError>
 /// Lets an object wait with its next index.
 fn wait_further(walk: &mut Walk, frame: Frame) -> Result<(), AllocError>
     requires { frame.next < 2 ^ 64 - 1 }
-    ensures { OnOk result (parts walk.new ≡ waiting (parts walk.old) (record frame { next = frame.next + 1 })) }
+    ensures { OnOk result (walk_parts walk.new ≡ waiting (walk_parts walk.old) (record frame { next = frame.next + 1 })) }
 {
     wait(
         walk,
@@ -123,11 +123,11 @@ fn wait_further(walk: &mut Walk, frame: Frame) -> Result<(), AllocError>
 fn look_at(walk: &mut Walk, frame: Frame, needed: usize) -> Result<bool, AllocError>
     requires below { needed < length walk.old.marks.items }
     requires small { frame.next < 2 ^ 64 - 1 }
-    ensures went { IfOk result (λ went. (early : ℕ → ℕ → Option ℕ) → IsWalk early (waiting (parts walk.old) frame) → early frame.object frame.next ≡ Some needed
-        → Went early (waiting (parts walk.old) frame) (parts walk.new) went) }
-    ensures leads { IfOk result (λ went. (early : ℕ → ℕ → Option ℕ) (counts : ℕ → ℕ) → IsWalk early (waiting (parts walk.old) frame)
+    ensures went { IfOk result (λ went. (early : ℕ → ℕ → Option ℕ) → IsWalk early (waiting (walk_parts walk.old) frame) → early frame.object frame.next ≡ Some needed
+        → Went early (waiting (walk_parts walk.old) frame) (walk_parts walk.new) went) }
+    ensures leads { IfOk result (λ went. (early : ℕ → ℕ → Option ℕ) (counts : ℕ → ℕ) → IsWalk early (waiting (walk_parts walk.old) frame)
         → early frame.object frame.next ≡ Some needed → frame.next < counts frame.object → went ≡ true
-        → Leads early counts (waiting (parts walk.old) frame) (parts walk.new)) }
+        → FinishesAlike early counts (waiting (walk_parts walk.old) frame) (walk_parts walk.new)) }
 {
     match walk.marks[needed] {
         Mark::Unseen => {
@@ -151,10 +151,10 @@ fn step(
     frame: Frame,
 ) -> Result<bool, AllocError>
     requires below { AreEarlyBelow (early_named types.now.declarations objects.now) (length walk.old.marks.items) }
-    requires walks { IsWalk (early_named types.now.declarations objects.now) (waiting (parts walk.old) frame) }
-    ensures went { IfOk result (Went (early_named types.now.declarations objects.now) (waiting (parts walk.old) frame) (parts walk.new)) }
+    requires walks { IsWalk (early_named types.now.declarations objects.now) (waiting (walk_parts walk.old) frame) }
+    ensures went { IfOk result (Went (early_named types.now.declarations objects.now) (waiting (walk_parts walk.old) frame) (walk_parts walk.new)) }
     ensures leads { IfOk result (λ went. went ≡ true
-        → Leads (early_named types.now.declarations objects.now) (value_count objects.now) (waiting (parts walk.old) frame) (parts walk.new)) }
+        → FinishesAlike (early_named types.now.declarations objects.now) (value_count objects.now) (waiting (walk_parts walk.old) frame) (walk_parts walk.new)) }
 {
     if frame.next >= value_count(objects, frame.object) {
         close(walk, frame.object)?;
@@ -178,9 +178,9 @@ fn visit_unseen(
     object: usize,
 ) -> Result<bool, AllocError>
     requires below { AreEarlyBelow (early_named types.now.declarations objects.now) (length walk.old.marks.items) }
-    requires idle { IsIdle (early_named types.now.declarations objects.now) (parts walk.old) }
+    requires idle { IsIdle (early_named types.now.declarations objects.now) (walk_parts walk.old) }
     requires unseen { slice_get walk.old.marks.items object ≡ Some Mark.Unseen }
-    ensures one { IfOk result (VisitsOne (early_named types.now.declarations objects.now) (parts walk.old) (parts walk.new) object) }
+    ensures one { IfOk result (VisitsOne (early_named types.now.declarations objects.now) (walk_parts walk.old) (walk_parts walk.new) object) }
     ensures visited { IfOk result (λ went. went ≡ true
         → Visited (early_values types.now.declarations objects.now) (object ∷ []) walk.old.order.items walk.new.order.items) }
 {
@@ -207,9 +207,9 @@ pub(crate) fn visit(
     object: usize,
 ) -> Result<bool, AllocError>
     requires below { AreEarlyBelow (early_named types.now.declarations objects.now) (length walk.old.marks.items) }
-    requires idle { IsIdle (early_named types.now.declarations objects.now) (parts walk.old) }
+    requires idle { IsIdle (early_named types.now.declarations objects.now) (walk_parts walk.old) }
     requires within { object < length walk.old.marks.items }
-    ensures one { IfOk result (VisitsOne (early_named types.now.declarations objects.now) (parts walk.old) (parts walk.new) object) }
+    ensures one { IfOk result (VisitsOne (early_named types.now.declarations objects.now) (walk_parts walk.old) (walk_parts walk.new) object) }
     ensures visited { IfOk result (λ went. went ≡ true
         → Visited (early_values types.now.declarations objects.now) (object ∷ []) walk.old.order.items walk.new.order.items) }
 {

@@ -12,7 +12,7 @@ use Rattle.gc_model.specs.Allocation.{Fits, Limits, asked, skipped, MayHave, May
 use Rattle.gc_policy.specs.Accounts.{Account, is_due}
 use Rattle.gc_owner.specs.Growing as growth
 use Rattle.gc_owner.specs.Growing.{AsksFirst, AsksPages}
-use Rattle.gc_policy.specs.Policy.{PolicyState, FitsNow, LacksNow, CollectsTable, ReadiesTable, GrowsTable, MakesTable, Dues, Prepares, Expands, table_rules, table_after, table_made, block_at, allocated_bytes, turned, count_try, tried, nothing, grows}
+use Rattle.gc_policy.specs.Policy.{PolicyState, FitsNow, LacksNow, CollectsTable, ReadiesTable, GrowsTable, MakesTable, Dues, Prepares, ExpandsTable, table_rules, table_after, table_made, block_bytes_at, allocated_bytes, turned, count_try, tried, nothing, grows}
 use Rattle.gc_policy.specs.Policy as policy
 use Rattle.gc_store.specs.Expansion.{MayCollectTable}
 use Rattle.gc_laws.proofs.SumLemmas.{same_sums}
@@ -84,16 +84,16 @@ fits_alike : (k : Layouts) → ¬ (k ≡ Counting) → (size : ℕ) (p q : Polic
 fits_alike Null told_nowhere size p q table held fits = subst (λ (t : Table ℕ). Fits t size) table fits
 fits_alike Counting told_nowhere size p q table held fits = absurd (told_nowhere refl)
 fits_alike Copying told_nowhere size p q table held fits =
-    let blocks = ap (λ (t : Table ℕ). sum (map (block_at Copying t) p.account.held)) table ∙ held (block_at Copying q.table) in
+    let blocks = ap (λ (t : Table ℕ). sum (map (block_bytes_at Copying t) p.account.held)) table ∙ held (block_bytes_at Copying q.table) in
     let pages : p.table.pages ≡ q.table.pages = ap (λ (t : Table ℕ). t.pages) table in
-    let room : skipped + sum (map (block_at Copying p.table) p.account.held) + round_up size alignment ≤ page / 2 * p.table.pages = fits in
+    let room : skipped + sum (map (block_bytes_at Copying p.table) p.account.held) + round_up size alignment ≤ page / 2 * p.table.pages = fits in
     omega arith
 
 -- so are the bytes that are allocated
 allocated_alike : (k : Layouts) (t : Table ℕ) (xs ys : List ℕ) → ((f : ℕ → ℕ) → sum (map f xs) ≡ sum (map f ys)) → allocated_bytes k t xs ≡ allocated_bytes k t ys
 allocated_alike Null t xs ys held = refl
-allocated_alike Counting t xs ys held = held (block_at Counting t)
-allocated_alike Copying t xs ys held = ap (λ (n : ℕ). cond (nat_eq t.pages 0) 0 (skipped + n)) (held (block_at Copying t))
+allocated_alike Counting t xs ys held = held (block_bytes_at Counting t)
+allocated_alike Copying t xs ys held = ap (λ (n : ℕ). cond (nat_eq t.pages 0) 0 (skipped + n)) (held (block_bytes_at Copying t))
 
 module _ (k : Layouts) (told_nowhere : ¬ (k ≡ Counting)) (most : ℕ) where
   alike_policies_at : (p q p' q' : PolicyState ℕ) → p' ≡ p → q' ≡ q → AlikePolicies most p q → AlikePolicies most p' q'
@@ -197,7 +197,7 @@ module _ (k : Layouts) (told_nowhere : ¬ (k ≡ Counting)) (most : ℕ) where
       retries_alike (table_rules k size) (AlikePolicies most) (decides size) n n' p' q' ok ok' due retry retry'
 
   -- a growth is decided
-  pub expands_alike : (bytes : ℕ) (p q p' q' : PolicyState ℕ) (granted granted' : Bool) → AlikePolicies most p q → Expands k bytes p granted p' → Expands k bytes q granted' q' → (granted ≡ granted') × AlikePolicies most p' q'
+  pub expands_alike : (bytes : ℕ) (p q p' q' : PolicyState ℕ) (granted granted' : Bool) → AlikePolicies most p q → ExpandsTable k bytes p granted p' → ExpandsTable k bytes q granted' q' → (granted ≡ granted') × AlikePolicies most p' q'
   expands_alike bytes p q p' q' g g' alike (nothing none) (nothing none') = (refl, alike)
   expands_alike bytes p q p' q' g g' alike (nothing none) (policy.no_heap some other) = absurd (omega arith)
   expands_alike bytes p q p' q' g g' alike (nothing none) (grows some makes grown) = absurd (omega arith)

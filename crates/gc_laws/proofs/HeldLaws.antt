@@ -11,10 +11,10 @@ use Rattle.gc_commands.specs.declared.reply.Reply.{Reply}
 use Rattle.gc_commands.specs.declared.reply.Reply.TheVariants as reply
 use Rattle.gc_commands.specs.declared.reply.Refusal.{Refusal}
 use Rattle.gc_script.specs.State.{State, visible}
-use Rattle.gc_script.specs.Shapes.{Shape, plain, declaring, making, growing, collecting, of_objects, of_increments, showing, shape}
+use Rattle.gc_script.specs.Shapes.{CommandShape, plain, declaring, making, growing, collecting, of_objects, of_increments, showing, shape}
 use Rattle.gc_script.proofs.GoesLemmas.{plain_answer}
 use Rattle.gc_script.specs.Steps as steps
-use Rattle.gc_script.specs.Steps.{Step, Answers, Does, Keeps, first_failing, tests}
+use Rattle.gc_script.specs.Steps.{Step, AnswersShape, Does, Keeps, first_failing, tests}
 
 -- a collection tells how many positions are reached, and how many host objects are among them
 abbrev CountsReached : Table ℕ → ℕ → ℕ → Type 0
@@ -53,7 +53,7 @@ module _ (layouts : Layouts) (limit : Option ℕ) (s s' : State) (objects hosts 
       subst (λ (t : Table ℕ). CountsReached t objects hosts) (sym same)
       (subst (λ (n : ℕ). CountsReached s.table n hosts) (sym one) (subst (λ (n : ℕ). CountsReached s.table k.objects n) (sym two) reached))
 
-  does_reached : (sh : Shape) → is_held (plain_answer sh (visible s)) ≡ false → Does layouts limit s sh (reply.Held objects hosts) s' → CountsReached s'.table objects hosts
+  does_reached : (sh : CommandShape) → is_held (plain_answer sh (visible s)) ≡ false → Does layouts limit s sh (reply.Held objects hosts) s' → CountsReached s'.table objects hosts
   does_reached (plain effect) mild does = other_reply (effect (visible s)).0 does.0 mild
   does_reached (declaring d) mild (steps.declared new is may said after) = other_reply _ said refl
   does_reached (declaring d) mild (steps.bad may said after) = other_reply _ said refl
@@ -65,7 +65,7 @@ module _ (layouts : Layouts) (limit : Option ℕ) (s s' : State) (objects hosts 
   does_reached (collecting of_increments) mild does = other_reply _ does.0.shows refl
   does_reached showing mild does = other_reply _ does.0 refl
 
-  answers_reached : (sh : Shape) (found : Option Refusal) → is_held (plain_answer sh (visible s)) ≡ false → Answers layouts limit s sh found (reply.Held objects hosts) s' → CountsReached s'.table objects hosts
+  answers_reached : (sh : CommandShape) (found : Option Refusal) → is_held (plain_answer sh (visible s)) ≡ false → AnswersShape layouts limit s sh found (reply.Held objects hosts) s' → CountsReached s'.table objects hosts
   answers_reached sh None mild answers = does_reached sh mild answers
   answers_reached sh (Some why) mild answers = other_reply (reply.Refused why) answers.0 refl
 

@@ -13,9 +13,9 @@ use Rattle.gc_commands.specs.declared.command.Command.{Command}
 use Rattle.gc_commands.specs.declared.reply.Reply.{Reply}
 use Rattle.gc_commands.specs.declared.reply.Refusal.{Refusal}
 use Rattle.gc_script.specs.State.{State}
-use Rattle.gc_script.specs.Shapes.{Shape, plain, declaring, making, growing, collecting, showing, shape}
+use Rattle.gc_script.specs.Shapes.{CommandShape, plain, declaring, making, growing, collecting, showing, shape}
 use Rattle.gc_script.specs.Steps as steps
-use Rattle.gc_script.specs.Steps.{Step, Answers, Does, first_failing, tests}
+use Rattle.gc_script.specs.Steps.{Step, AnswersShape, Does, first_failing, tests}
 use Rattle.gc_script.specs.Run.{Run}
 
 pub lacks_over : (layouts : Layouts) (most : ℕ) (places : Placing) (o : Object ℕ) (t t' : Table ℕ) → most ≤ max_pages → t.first ≤ most → LacksMemory layouts (Some most) places o t t'
@@ -78,7 +78,7 @@ grows_within most before bytes t t' granted (allocation.refused some may over) w
 from_state : (most before : ℕ) (s' u : State) → s' ≡ u → IsWithin most before u.table → IsWithin most before s'.table
 from_state most before s' u is within = subst (λ (x : State). IsWithin most before x.table) (sym is) within
 
-does_within : (layouts : Layouts) (most before : ℕ) (s : State) (sh : Shape) (answer : Reply) (s' : State) → Does layouts (Some most) s sh answer s' → IsWithin most before s.table → IsWithin most before s'.table
+does_within : (layouts : Layouts) (most before : ℕ) (s : State) (sh : CommandShape) (answer : Reply) (s' : State) → Does layouts (Some most) s sh answer s' → IsWithin most before s.table → IsWithin most before s'.table
 does_within layouts most before s (plain effect) answer s' does within = from_state most before s' _ does.1 within
 does_within layouts most before s (declaring d) answer s' (steps.declared new is may said after) within = from_state most before s' _ after within
 does_within layouts most before s (declaring d) answer s' (steps.bad may said after) within = from_state most before s' s after within
@@ -89,7 +89,7 @@ does_within layouts most before s (growing n) answer s' (steps.refused u a grows
 does_within layouts most before s (collecting told) answer s' does within = from_state most before s' _ does.1.1 within
 does_within layouts most before s showing answer s' does within = from_state most before s' s does.1 within
 
-answers_within : (layouts : Layouts) (most before : ℕ) (s : State) (sh : Shape) (found : Option Refusal) (answer : Reply) (s' : State) → Answers layouts (Some most) s sh found answer s' → IsWithin most before s.table → IsWithin most before s'.table
+answers_within : (layouts : Layouts) (most before : ℕ) (s : State) (sh : CommandShape) (found : Option Refusal) (answer : Reply) (s' : State) → AnswersShape layouts (Some most) s sh found answer s' → IsWithin most before s.table → IsWithin most before s'.table
 answers_within layouts most before s sh None answer s' answers within = does_within layouts most before s sh answer s' answers within
 answers_within layouts most before s sh (Some why) answer s' answers within = from_state most before s' s answers.1 within
 

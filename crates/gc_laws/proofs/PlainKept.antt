@@ -9,7 +9,7 @@ use Rattle.gc_types.specs.declared.value.StorageType.TheVariants as storage
 use Rattle.gc_owner.specs.declared.entry.GcClass.TheVariants as class
 use Rattle.gc_model.specs.Values.{Reference, null, small, at, Value, numeric, i32, i64, f32, f64, v128, function, continuation, Object}
 use Rattle.gc_model.specs.Values as values
-use Rattle.gc_model.specs.Table.{Table, Slot, Owned, empty_slot, push, write, with_value}
+use Rattle.gc_model.specs.Table.{Table, Slot, Owned, null_slot, push, write, with_value}
 use Rattle.gc_model.specs.Reach.{present, IsReached}
 use Rattle.gc_model.specs.Live.{rooted_among}
 use Rattle.gc_model.specs.Frames.{newest}
@@ -21,9 +21,9 @@ use Rattle.gc_rooted.proofs.GoneRoots.{gone_push, gone_take, below_differs}
 use Rattle.gc_commands.specs.declared.command.Command.{Command}
 use Rattle.gc_commands.specs.declared.command.Command.TheVariants.{Bad, ReadBytes, I31, Field, Elem, Len, HostNumber, SetField, SetElem, Eq, Enter, Leave, Push, Pop, Store, Load, SetGlobal, GetGlobal, Own, Root, Unroot, Throw, Take}
 use Rattle.gc_script.specs.State.{State, number, reference, HeldOwned, owned, unrooted, with_table}
-use Rattle.gc_script.specs.Given.{given, given_register, given_value, Target, target, target_values, field_of}
+use Rattle.gc_script.specs.Given.{given, given_register, given_value, Target, target, target_values, target_field}
 use Rattle.gc_script.specs.Shapes as shapes
-use Rattle.gc_script.specs.Shapes.{Shape, plain, shape, reads, value_in, kept_as, write_target, writes_value, slot_of, frame_value, global_value, given_up, owned_named, throw_target, pending_value, takes_pending}
+use Rattle.gc_script.specs.Shapes.{CommandShape, plain, shape, reads, value_in, kept_as, write_target, writes_value, slot_of, frame_value, global_value, owned_given_up, owned_named, throw_target, pending_value, takes_pending}
 use Rattle.gc_laws.proofs.EachLemmas.{all_get, all_set, all_newest}
 use Rattle.gc_laws.proofs.KnownReach.{Known, KnownValue, KnownSlot, KnownOwned, KnownRoot, KnownParts, Stays, known_null, known_small, one_known, null_known, own_stays, stays_reached, written_reached}
 use Rattle.gc_laws.proofs.SoundRegisters.{SoundRegisters, Sound, KnownTarget, sound_later, sound_set, sound_put, target_values_known, register_known, operand_known, register_target}
@@ -109,7 +109,7 @@ pending_known : (t : Table ℕ) (pending : Option Reference) → All (Known t) (
 pending_known t None known = null_known t class.Exn
 pending_known t (Some r) known = known
 
-given_up_known : (t : Table ℕ) (held : Option HeldOwned) (roots : List Owned) → All (KnownOwned t) roots → All (KnownOwned t) (given_up held roots)
+given_up_known : (t : Table ℕ) (held : Option HeldOwned) (roots : List Owned) → All (KnownOwned t) roots → All (KnownOwned t) (owned_given_up held roots)
 given_up_known t None roots all = all
 given_up_known t (Some unrooted) roots all = all
 given_up_known t (Some (owned c n)) roots all =
@@ -183,7 +183,7 @@ module _ (s : State) (sound : Sound s) where
   }
 
   -- what a plain command keeps; nothing is said of another
-  abbrev KeptBy : Shape → Type 0
+  abbrev KeptBy : CommandShape → Type 0
   KeptBy (plain effect) = Kept s (effect s).1
   KeptBy _ = Unit {0}
 
@@ -195,15 +195,15 @@ module _ (s : State) (sound : Sound s) where
       (sound_set (length s.table.pushes) (length (push r s.table).pushes) (omega arith) s.registers sound d (reference class.Any (Some (length s.table.pushes))) more)
   plain_kept (Field r i into) = reads_kept s s (value_in s r i) into (own_rooted s.table) sound (all_get (KnownValue s.table) (target_values (target s r)) i (values.reference class.Any null) (target_values_known s.table (target s r) (register_target s sound r)) (null_known s.table class.Any))
   plain_kept (Elem r i into) = reads_kept s s (value_in s r i) into (own_rooted s.table) sound (all_get (KnownValue s.table) (target_values (target s r)) i (values.reference class.Any null) (target_values_known s.table (target s r) (register_target s sound r)) (null_known s.table class.Any))
-  plain_kept (SetField r i v) = written_kept (target s r) i (kept_as (field_of s.table (target s r) i) (given_value (given s v))) (kept_as_known s.table (field_of s.table (target s r) i) (given_value (given s v)) (operand_known s sound v))
-  plain_kept (SetElem r i v) = written_kept (target s r) i (kept_as (field_of s.table (target s r) i) (given_value (given s v))) (kept_as_known s.table (field_of s.table (target s r) i) (given_value (given s v)) (operand_known s sound v))
+  plain_kept (SetField r i v) = written_kept (target s r) i (kept_as (target_field s.table (target s r) i) (given_value (given s v))) (kept_as_known s.table (target_field s.table (target s r) i) (given_value (given s v)) (operand_known s sound v))
+  plain_kept (SetElem r i v) = written_kept (target s r) i (kept_as (target_field s.table (target s r) i) (given_value (given s v))) (kept_as_known s.table (target_field s.table (target s r) i) (given_value (given s v)) (operand_known s sound v))
   plain_kept Leave = kept_rooted s (shapes.leaves s).1 (record {
-    stays = record { parts = parts_of _ (All-take (KnownRoot s.table) (shapes.newest s.marks) s.table.scoped own.scoped) own.frames own.globals own.owned own.pending; objects = refl };
+    stays = record { parts = parts_of _ (All-take (KnownRoot s.table) (shapes.newest_mark s.marks) s.table.scoped own.scoped) own.frames own.globals own.owned own.pending; objects = refl };
     pushes = omega arith;
-    gone = λ serial below none. gone_take serial (shapes.newest s.marks) s.table.scoped none;
+    gone = λ serial below none. gone_take serial (shapes.newest_mark s.marks) s.table.scoped none;
   }) sound
   plain_kept (Push k) = with_parts (shapes.opens_frame k s).1
-      (parts_of _ own.scoped (All-push (λ (slots : List Slot). All (KnownSlot s.table) slots) s.table.frames (replicate k empty_slot) own.frames (All-replicate (KnownSlot s.table) k empty_slot (known_null s.table))) own.globals own.owned own.pending)
+      (parts_of _ own.scoped (All-push (λ (slots : List Slot). All (KnownSlot s.table) slots) s.table.frames (replicate k null_slot) own.frames (All-replicate (KnownSlot s.table) k null_slot (known_null s.table))) own.globals own.owned own.pending)
       refl refl refl sound
   plain_kept Pop = with_parts (shapes.closes_frame s).1
       (parts_of _ own.scoped (All-take (λ (slots : List Slot). All (KnownSlot s.table) slots) (length s.table.frames - 1) s.table.frames own.frames) own.globals own.owned own.pending)
@@ -212,13 +212,13 @@ module _ (s : State) (sound : Sound s) where
       let slot = slot_of (given_value (given_register s r)) in
       with_parts (shapes.sets_slot k r s).1 (parts_of _ own.scoped (slot_set (record { class = slot.class; reference = slot.reference }) k (slot_known s.table (given_value (given_register s r)) (register_known s sound r))) own.globals own.owned own.pending) refl refl refl sound
   plain_kept (Load k d) =
-      let slot : Known s.table (unwrap_or (slice_get (newest s.table.frames) k) empty_slot).reference = all_get (KnownSlot s.table) (newest s.table.frames) k empty_slot (all_newest (KnownSlot s.table) s.table.frames own.frames) (known_null s.table) in
+      let slot : Known s.table (unwrap_or (slice_get (newest s.table.frames) k) null_slot).reference = all_get (KnownSlot s.table) (newest s.table.frames) k null_slot (all_newest (KnownSlot s.table) s.table.frames own.frames) (known_null s.table) in
       reads_kept s s (frame_value s k) (Some d) (own_rooted s.table) sound (one_known s.table _ slot)
   plain_kept (SetGlobal g r) =
       let slot = slot_of (given_value (given_register s r)) in
       with_parts (shapes.sets_global g r s).1 (parts_of _ own.scoped own.frames (all_set (KnownSlot s.table) s.table.globals g (record { class = slot.class; reference = slot.reference }) own.globals (slot_known s.table (given_value (given_register s r)) (register_known s sound r))) own.owned own.pending) refl refl refl sound
   plain_kept (GetGlobal g d) =
-      let slot : Known s.table (unwrap_or (slice_get s.table.globals g) empty_slot).reference = all_get (KnownSlot s.table) s.table.globals g empty_slot own.globals (known_null s.table) in
+      let slot : Known s.table (unwrap_or (slice_get s.table.globals g) null_slot).reference = all_get (KnownSlot s.table) s.table.globals g null_slot own.globals (known_null s.table) in
       reads_kept s s (global_value s g) (Some d) (own_rooted s.table) sound (one_known s.table _ slot)
   plain_kept (Own o r) =
       let slot = slot_of (given_value (given_register s r)) in

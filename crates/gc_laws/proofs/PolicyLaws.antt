@@ -15,10 +15,10 @@ use Rattle.gc_commands.specs.declared.reply.Reply.TheVariants as reply
 use Rattle.gc_commands.specs.declared.reply.Refusal.{Refusal}
 use Rattle.gc_commands.specs.declared.reply.Refusal.TheVariants as refusal
 use Rattle.gc_policy.specs.Accounts.{Account, with_held}
-use Rattle.gc_policy.specs.Policy.{PolicyState, Prepares, Expands}
+use Rattle.gc_policy.specs.Policy.{PolicyState, Prepares, ExpandsTable}
 use Rattle.gc_script.specs.State.{State, reference, with_heap, with_account, with_table, set_register, visible, over}
-use Rattle.gc_script.specs.Shapes.{Shape, plain, declaring, making, growing, collecting, showing, shape}
-use Rattle.gc_script.specs.Steps.{Step, Answers, Does, Declares, declared, bad, MakesNew, made, lacks, AnswersGrow, grown, refused, tests, first_failing}
+use Rattle.gc_script.specs.Shapes.{CommandShape, plain, declaring, making, growing, collecting, showing, shape}
+use Rattle.gc_script.specs.Steps.{Step, AnswersShape, Does, AnswersDeclare, declared, bad, MakesNew, made, lacks, AnswersGrow, grown, refused, tests, first_failing}
 use Rattle.gc_script.specs.Policy as policy
 use Rattle.gc_script.specs.Policy.{policy_of, IsPolicyOf, with_made, AllocatesByPolicy, GrowsByPolicy, AsksNothing, FollowsDoing, FollowsTested, Follows, RunByPolicy}
 use Rattle.gc_laws.proofs.StepLaws.{same_told}
@@ -114,7 +114,7 @@ grow_answer false = reply.Refused refusal.GcHeapGrowthFailed
 record GrowByPolicy (k : Layouts) (bytes : ℕ) (s : State) (limits : Limits) (answer : Reply) (s' : State) (limits' : Limits) : Type 0 where
   granted : Bool
   end : PolicyState ℕ
-  expands : Expands k bytes (policy_of s limits) granted end
+  expands : ExpandsTable k bytes (policy_of s limits) granted end
   answer_is : answer ≡ grow_answer granted
   after : s' ≡ with_policy end s
   limits_are : limits' ≡ end.limits
@@ -195,7 +195,7 @@ module _ (k : Layouts) (told_nowhere : ¬ (k ≡ Counting)) (most : ℕ) (s : St
     },
   )
 
-  declares_alike : (d : Option Declaration) (answer answer' : Reply) (s' t' : State) (limits1 limits2 : Limits) → Declares d s answer s' → AsksNothing s limits s' limits1 → Declares d other_state answer' t' → AsksNothing other_state limits t' limits2 → AlikeSteps answer answer' s' t' limits1 limits2
+  declares_alike : (d : Option Declaration) (answer answer' : Reply) (s' t' : State) (limits1 limits2 : Limits) → AnswersDeclare d s answer s' → AsksNothing s limits s' limits1 → AnswersDeclare d other_state answer' t' → AsksNothing other_state limits t' limits2 → AlikeSteps answer answer' s' t' limits1 limits2
   declares_alike d answer answer' s' t' limits1 limits2 (declared new spells may is after) follows (declared new' spells' may' is' after') follows' =
       asking_nothing (with_table (declare new s.table) s) answer answer' s' t' limits1 limits2 (is ∙ sym is') after
       (after' ∙ ap (λ (x : Declaration). with_table (declare x other_state.table) other_state) (cc (spells, spells'))) follows follows'
@@ -204,7 +204,7 @@ module _ (k : Layouts) (told_nowhere : ¬ (k ≡ Counting)) (most : ℕ) (s : St
   declares_alike d answer answer' s' t' limits1 limits2 (bad may_not is after) follows (bad may_not' is' after') follows' =
       asking_nothing s answer answer' s' t' limits1 limits2 (is ∙ sym is') after after' follows follows'
 
-  doing_alike : (counter : Option ℕ) (sh : Shape) (answer answer' : Reply) (s' t' : State) (limits1 limits2 : Limits) → Does k limits.limit s sh answer s' → FollowsDoing k counter s limits sh answer s' limits1 → Does k limits.limit other_state sh answer' t' → FollowsDoing k counter other_state limits sh answer' t' limits2 → AlikeSteps answer answer' s' t' limits1 limits2
+  doing_alike : (counter : Option ℕ) (sh : CommandShape) (answer answer' : Reply) (s' t' : State) (limits1 limits2 : Limits) → Does k limits.limit s sh answer s' → FollowsDoing k counter s limits sh answer s' limits1 → Does k limits.limit other_state sh answer' t' → FollowsDoing k counter other_state limits sh answer' t' limits2 → AlikeSteps answer answer' s' t' limits1 limits2
   doing_alike counter (plain effect) answer answer' s' t' limits1 limits2 one follows other follows' =
       asking_nothing (over s (effect (visible s)).1) answer answer' s' t' limits1 limits2 (one.0 ∙ sym other.0) one.1 other.1 follows follows'
   doing_alike counter (declaring d) answer answer' s' t' limits1 limits2 one follows other follows' = declares_alike (d s.table.types) answer answer' s' t' limits1 limits2 one follows other follows'
@@ -227,7 +227,7 @@ module _ (k : Layouts) (told_nowhere : ¬ (k ≡ Counting)) (most : ℕ) (s : St
   doing_alike counter showing answer answer' s' t' limits1 limits2 one follows other follows' =
       asking_nothing s answer answer' s' t' limits1 limits2 (one.0 ∙ sym other.0) one.1 other.1 follows follows'
 
-  answers_alike : (counter : Option ℕ) (sh : Shape) (found : Option Refusal) (answer answer' : Reply) (s' t' : State) (limits1 limits2 : Limits) → Answers k limits.limit s sh found answer s' → FollowsTested k counter s limits sh found answer s' limits1 → Answers k limits.limit other_state sh found answer' t' → FollowsTested k counter other_state limits sh found answer' t' limits2 → AlikeSteps answer answer' s' t' limits1 limits2
+  answers_alike : (counter : Option ℕ) (sh : CommandShape) (found : Option Refusal) (answer answer' : Reply) (s' t' : State) (limits1 limits2 : Limits) → AnswersShape k limits.limit s sh found answer s' → FollowsTested k counter s limits sh found answer s' limits1 → AnswersShape k limits.limit other_state sh found answer' t' → FollowsTested k counter other_state limits sh found answer' t' limits2 → AlikeSteps answer answer' s' t' limits1 limits2
   answers_alike counter sh None answer answer' s' t' limits1 limits2 one follows other follows' = doing_alike counter sh answer answer' s' t' limits1 limits2 one follows other follows'
   answers_alike counter sh (Some why) answer answer' s' t' limits1 limits2 one follows other follows' =
       asking_nothing s answer answer' s' t' limits1 limits2 (one.0 ∙ sym other.0) one.1 other.1 follows follows'

@@ -12,7 +12,7 @@ use Rattle.gc_commands.specs.declared.command.Command.{Command}
 use Rattle.gc_commands.specs.declared.reply.Reply.{Reply}
 use Rattle.gc_commands.specs.declared.reply.Refusal.{Refusal}
 use Rattle.gc_script.specs.State.{State}
-use Rattle.gc_script.specs.Shapes.{Shape, making, growing, collecting, shape}
+use Rattle.gc_script.specs.Shapes.{CommandShape, making, growing, collecting, shape}
 use Rattle.gc_script.specs.Steps.{tests, first_failing}
 use Rattle.gc_script.specs.Policy.{policy_of, AllocatesByPolicy, GrowsByPolicy, FollowsDoing, FollowsTested, Follows, RunByPolicy}
 use Rattle.gc_script.specs.Policy as policy
@@ -41,13 +41,13 @@ collection_limit : (layouts : Layouts) (p q : PolicyState ℕ) → MayCollectTab
 collection_limit layouts p q (inl ran) = ap (λ (l : Limits). l.limit) ran.1.limits
 collection_limit layouts p q (inr none) = ap (λ (x : PolicyState ℕ). x.limits.limit) none.1
 
-doing_limit : (layouts : Layouts) (counter : Option ℕ) (s : State) (limits : Limits) (sh : Shape) (answer : Reply) (s' : State) (limits' : Limits) → FollowsDoing layouts counter s limits sh answer s' limits' → limits'.limit ≡ limits.limit
+doing_limit : (layouts : Layouts) (counter : Option ℕ) (s : State) (limits : Limits) (sh : CommandShape) (answer : Reply) (s' : State) (limits' : Limits) → FollowsDoing layouts counter s limits sh answer s' limits' → limits'.limit ≡ limits.limit
 doing_limit layouts counter s limits (making d class object) answer s' limits' follows = new_limit layouts counter _ s limits answer s' limits' follows
 doing_limit layouts counter s limits (collecting told) answer s' limits' follows = collection_limit layouts (policy_of s limits) (policy_of s' limits') follows
 doing_limit layouts counter s limits (growing n) answer s' limits' follows = grow_limit layouts n s limits answer s' limits' follows
 doing_limit layouts counter s limits sh answer s' limits' follows = ap (λ (l : Limits). l.limit) follows.same_limits
 
-tested_limit : (layouts : Layouts) (counter : Option ℕ) (s : State) (limits : Limits) (sh : Shape) (found : Option Refusal) (answer : Reply) (s' : State) (limits' : Limits) → FollowsTested layouts counter s limits sh found answer s' limits' → limits'.limit ≡ limits.limit
+tested_limit : (layouts : Layouts) (counter : Option ℕ) (s : State) (limits : Limits) (sh : CommandShape) (found : Option Refusal) (answer : Reply) (s' : State) (limits' : Limits) → FollowsTested layouts counter s limits sh found answer s' limits' → limits'.limit ≡ limits.limit
 tested_limit layouts counter s limits sh (Some why) answer s' limits' follows = ap (λ (l : Limits). l.limit) follows.same_limits
 tested_limit layouts counter s limits sh None answer s' limits' follows = doing_limit layouts counter s limits sh answer s' limits' follows
 

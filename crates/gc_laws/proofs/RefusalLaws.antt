@@ -13,14 +13,14 @@ use Rattle.gc_commands.specs.declared.reply.Reply.TheVariants as reply
 use Rattle.gc_commands.specs.declared.reply.Refusal.{Refusal}
 use Rattle.gc_commands.specs.declared.reply.Refusal.TheVariants as refusal
 use Rattle.gc_script.specs.State.{State, visible}
-use Rattle.gc_script.specs.Shapes.{Shape, plain, declaring, making, growing, collecting, showing, shape}
+use Rattle.gc_script.specs.Shapes.{CommandShape, plain, declaring, making, growing, collecting, showing, shape}
 use Rattle.gc_script.specs.Steps as steps
-use Rattle.gc_script.specs.Steps.{Step, Answers, Does, first_failing, tests}
+use Rattle.gc_script.specs.Steps.{Step, AnswersShape, Does, first_failing, tests}
 use Rattle.gc_script.specs.Run.{Run, SaysRefused}
 use Rattle.gc_script.proofs.CollectionLemmas.{tells_mild}
 use Rattle.gc_script.proofs.CountLemmas.{tells, mild_found, says_other}
 use Rattle.gc_script.proofs.GoesLemmas.{plain_answer, mild, all_mild}
-use Rattle.gc_laws.specs.Laws.{LacksRoom, IsOutOfMemory, GrowsPast, FailsToGrow}
+use Rattle.gc_laws.specs.Laws.{ShapeRunsOut, IsOutOfMemory, GrowsPast, FailsToGrow}
 use Rattle.gc_laws.proofs.LimitLaws.{lacks_over, allocates_under, growth_over}
 
 -- a reply that says nothing of it, and a cause that isn't there
@@ -34,8 +34,8 @@ not_found : (why : Refusal) → ¬ (None ≡ Some why)
 not_found why e = cc e
 
 module _ (layouts : Layouts) (most : ℕ) (s s' : State) where
-  out_does : (sh : Shape) (r : Reply) → tells (plain_answer sh (visible s)) ≡ false → most ≤ max_pages → s.table.first ≤ most → Does layouts (Some most) s sh r s'
-      → (r ≡ reply.Refused refusal.GcHeapOutOfMemory) ↔ LacksRoom layouts most s sh
+  out_does : (sh : CommandShape) (r : Reply) → tells (plain_answer sh (visible s)) ≡ false → most ≤ max_pages → s.table.first ≤ most → Does layouts (Some most) s sh r s'
+      → (r ≡ reply.Refused refusal.GcHeapOutOfMemory) ↔ ShapeRunsOut layouts most s sh
   out_does (plain effect) r mild within first does = no_memory (says_other r _ does.0 mild) (λ x. x)
   out_does (declaring d) r mild within first (steps.declared new is may said after) = no_memory (says_other r _ said refl) (λ x. x)
   out_does (declaring d) r mild within first (steps.bad may said after) = no_memory (says_other r _ said refl) (λ x. x)
@@ -48,7 +48,7 @@ module _ (layouts : Layouts) (most : ℕ) (s s' : State) where
   out_does (collecting told) r mild within first does = no_memory (tells_mild layouts s told r does.0) (λ x. x)
   out_does showing r mild within first does = no_memory (says_other r _ does.0 refl) (λ x. x)
 
-  growth_does : (sh : Shape) (r : Reply) → tells (plain_answer sh (visible s)) ≡ false → most ≤ max_pages → s.table.first ≤ most → Does layouts (Some most) s sh r s'
+  growth_does : (sh : CommandShape) (r : Reply) → tells (plain_answer sh (visible s)) ≡ false → most ≤ max_pages → s.table.first ≤ most → Does layouts (Some most) s sh r s'
       → (r ≡ reply.Refused refusal.GcHeapGrowthFailed) ↔ GrowsPast most s sh
   growth_does (plain effect) r mild within first does = no_growth (says_other r _ does.0 mild) (λ x. x)
   growth_does (declaring d) r mild within first (steps.declared new is may said after) = no_growth (says_other r _ said refl) (λ x. x)
@@ -62,7 +62,7 @@ module _ (layouts : Layouts) (most : ℕ) (s s' : State) where
   growth_does (collecting told) r mild within first does = no_growth (tells_mild layouts s told r does.0) (λ x. x)
   growth_does showing r mild within first does = no_growth (says_other r _ does.0 refl) (λ x. x)
 
-  out_by : (c : Command) (r : Reply) (found : Option Refusal) → most ≤ max_pages → s.table.first ≤ most → first_failing (tests layouts s c) ≡ found → Answers layouts (Some most) s (shape c) found r s'
+  out_by : (c : Command) (r : Reply) (found : Option Refusal) → most ≤ max_pages → s.table.first ≤ most → first_failing (tests layouts s c) ≡ found → AnswersShape layouts (Some most) s (shape c) found r s'
       → (r ≡ reply.Refused refusal.GcHeapOutOfMemory) ↔ IsOutOfMemory layouts most s c
   out_by c r None within first is does =
       let same = out_does (shape c) r (mild c (visible s)) within first does in
@@ -70,7 +70,7 @@ module _ (layouts : Layouts) (most : ℕ) (s s' : State) where
   out_by c r (Some why) within first is answers =
       no_memory (says_other r (reply.Refused why) answers.0 (mild_found (tests layouts s c) why (all_mild layouts s c) is)) (λ out. not_found why (sym out.0 ∙ is))
 
-  growth_by : (c : Command) (r : Reply) (found : Option Refusal) → most ≤ max_pages → s.table.first ≤ most → first_failing (tests layouts s c) ≡ found → Answers layouts (Some most) s (shape c) found r s'
+  growth_by : (c : Command) (r : Reply) (found : Option Refusal) → most ≤ max_pages → s.table.first ≤ most → first_failing (tests layouts s c) ≡ found → AnswersShape layouts (Some most) s (shape c) found r s'
       → (r ≡ reply.Refused refusal.GcHeapGrowthFailed) ↔ FailsToGrow layouts most s c
   growth_by c r None within first is does =
       let same = growth_does (shape c) r (mild c (visible s)) within first does in
@@ -99,7 +99,7 @@ grows_first limit bytes t t' granted (allocation.refused some may over) = refl
 abbrev first_of : State → ℕ
 first_of s = s.table.first
 
-does_first : (layouts : Layouts) (limit : Option ℕ) (s : State) (sh : Shape) (answer : Reply) (s' : State) → Does layouts limit s sh answer s' → s'.table.first ≡ s.table.first
+does_first : (layouts : Layouts) (limit : Option ℕ) (s : State) (sh : CommandShape) (answer : Reply) (s' : State) → Does layouts limit s sh answer s' → s'.table.first ≡ s.table.first
 does_first layouts limit s (plain effect) answer s' does = ap first_of does.1
 does_first layouts limit s (declaring d) answer s' (steps.declared new is may said after) = ap first_of after
 does_first layouts limit s (declaring d) answer s' (steps.bad may said after) = ap first_of after
@@ -110,7 +110,7 @@ does_first layouts limit s (growing n) answer s' (steps.refused u a grows said a
 does_first layouts limit s (collecting told) answer s' does = ap first_of does.1.1
 does_first layouts limit s showing answer s' does = ap first_of does.1
 
-answers_first : (layouts : Layouts) (limit : Option ℕ) (s : State) (sh : Shape) (found : Option Refusal) (answer : Reply) (s' : State) → Answers layouts limit s sh found answer s' → s'.table.first ≡ s.table.first
+answers_first : (layouts : Layouts) (limit : Option ℕ) (s : State) (sh : CommandShape) (found : Option Refusal) (answer : Reply) (s' : State) → AnswersShape layouts limit s sh found answer s' → s'.table.first ≡ s.table.first
 answers_first layouts limit s sh None answer s' answers = does_first layouts limit s sh answer s' answers
 answers_first layouts limit s sh (Some why) answer s' answers = ap first_of answers.1
 

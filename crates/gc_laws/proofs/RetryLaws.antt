@@ -1,6 +1,6 @@
 -- The rule of retry decides: from alike states it ends alike.
 use Rattle.std.proofs.Common.{◌≡◌, Bool, true, false, refl, sym, ◌∙◌}
-use Rattle.gc_owner.specs.Retry.{Rules, Retry, Ends, at_once, after_collection, after_both, after_growth, after_refusal}
+use Rattle.gc_owner.specs.Retry.{Rules, Retry, HasFoundRoom, at_once, after_collection, after_both, after_growth, after_refusal}
 
 -- what makes the rule decide, where some states are alike
 pub record Decides {S : Type 0} (rules : Rules S) (Alike : S → S → Type 0) : Type 0 where
@@ -15,7 +15,7 @@ pub differ : (b : Bool) → b ≡ true → b ≡ false → ⊥
 differ b one other = cc
 
 module _ {S : Type 0} (rules : Rules S) (Alike : S → S → Type 0) (decides : Decides rules Alike) where
-  ends_alike : (s t : S) (ok ok' : Bool) → Alike s t → Ends rules ok s → Ends rules ok' t → ok ≡ ok'
+  ends_alike : (s t : S) (ok ok' : Bool) → Alike s t → HasFoundRoom rules ok s → HasFoundRoom rules ok' t → ok ≡ ok'
   ends_alike s t true true alike one other = refl
   ends_alike s t true false alike one other = absurd (decides.apart s t alike one other)
   ends_alike s t false true alike one other = absurd (decides.apart_too s t alike one other)
@@ -35,7 +35,7 @@ module _ {S : Type 0} (rules : Rules S) (Alike : S → S → Type 0) (decides : 
   from_collection s t m e ok alike none first collects room (after_growth none' first' grows fits) = absurd (differ (rules.collects_first t) (sym (decides.first s t alike) ∙ first) first')
   from_collection s t m e ok alike none first collects room (after_refusal none' first' grows collects' ends) = absurd (differ (rules.collects_first t) (sym (decides.first s t alike) ∙ first) first')
 
-  from_both : (s t m d e : S) (granted ok ok' : Bool) → Alike s t → rules.Lacks s → rules.collects_first s ≡ true → rules.Collects s m → rules.Lacks m → rules.Grows m granted d → Ends rules ok d → Retry rules t ok' e → (ok ≡ ok') × Alike d e
+  from_both : (s t m d e : S) (granted ok ok' : Bool) → Alike s t → rules.Lacks s → rules.collects_first s ≡ true → rules.Collects s m → rules.Lacks m → rules.Grows m granted d → HasFoundRoom rules ok d → Retry rules t ok' e → (ok ≡ ok') × Alike d e
   from_both s t m d e granted ok ok' alike none first collects still grows ends (at_once fits) = absurd (decides.apart_too s t alike none fits)
   from_both s t m d e granted ok ok' alike none first collects still grows ends (after_collection {m = n} none' first' collects' fits) = absurd (decides.apart_too m n (decides.collects s t m n alike collects collects') still fits)
   from_both s t m d e granted ok ok' alike none first collects still grows ends (after_both {m = n} {granted = granted'} none' first' collects' still' grows' gains ends') =
@@ -51,7 +51,7 @@ module _ {S : Type 0} (rules : Rules S) (Alike : S → S → Type 0) (decides : 
   from_growth s t d e ok alike none first grows (after_growth none' first' grows' fits) = (refl, (decides.grows s t d e true true alike grows grows').1)
   from_growth s t d e ok alike none first grows (after_refusal {m = n} none' first' grows' collects' ends') = absurd (differ true refl (decides.grows s t d n true false alike grows grows').0)
 
-  from_refusal : (s t m d e : S) (ok ok' : Bool) → Alike s t → rules.Lacks s → rules.collects_first s ≡ false → rules.Grows s false m → rules.Collects m d → Ends rules ok d → Retry rules t ok' e → (ok ≡ ok') × Alike d e
+  from_refusal : (s t m d e : S) (ok ok' : Bool) → Alike s t → rules.Lacks s → rules.collects_first s ≡ false → rules.Grows s false m → rules.Collects m d → HasFoundRoom rules ok d → Retry rules t ok' e → (ok ≡ ok') × Alike d e
   from_refusal s t m d e ok ok' alike none first grows collects ends (at_once fits) = absurd (decides.apart_too s t alike none fits)
   from_refusal s t m d e ok ok' alike none first grows collects ends (after_collection none' first' collects' fits) = absurd (differ (rules.collects_first t) first' (sym (decides.first s t alike) ∙ first))
   from_refusal s t m d e ok ok' alike none first grows collects ends (after_both none' first' collects' still' grows' gains ends') = absurd (differ (rules.collects_first t) first' (sym (decides.first s t alike) ∙ first))

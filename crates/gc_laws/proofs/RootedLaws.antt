@@ -5,7 +5,7 @@ use Rattle.std.proofs.lemmas.List.Elements.{Contains-append_left, Contains-push,
 use Rattle.gc_types.specs.declared.kind.Layouts.{Layouts}
 use Rattle.gc_types.specs.declared.kind.Layouts.TheVariants.{Null, Counting, Copying}
 use Rattle.gc_model.specs.Values.{Reference, null, at, Object}
-use Rattle.gc_model.specs.Table.{Table, Slot, start, global_count, empty_slot}
+use Rattle.gc_model.specs.Table.{Table, Slot, start, global_count, null_slot}
 use Rattle.gc_model.specs.Reach.{IsKept, IsReached, Reached, root_references, slot_references}
 use Rattle.gc_model.specs.Sizes.{object_size}
 use Rattle.gc_model.specs.Allocation.{Limits}
@@ -14,16 +14,16 @@ use Rattle.gc_view.specs.Reach.{by_start, by_step}
 use Rattle.gc_policy.specs.Accounts.{Account, no_account}
 use Rattle.gc_owner.specs.Retry.{Retry, at_once, after_collection, after_both, after_growth, after_refusal}
 use Rattle.gc_policy.specs.Policy as policy
-use Rattle.gc_policy.specs.Policy.{PolicyState, CollectsTable, ReadiesTable, GrowsTable, MakesTable, Dues, Prepares, Expands, table_rules, table_after, table_made, count_try}
+use Rattle.gc_policy.specs.Policy.{PolicyState, CollectsTable, ReadiesTable, GrowsTable, MakesTable, Dues, Prepares, ExpandsTable, table_rules, table_after, table_made, count_try}
 use Rattle.gc_store.specs.Expansion.{MayCollectTable}
 use Rattle.gc_commands.specs.declared.command.Command.{Command}
 use Rattle.gc_commands.specs.declared.reply.Reply.{Reply}
 use Rattle.gc_commands.specs.declared.reply.Refusal.{Refusal}
 use Rattle.gc_script.specs.State.{State, begin, visible}
-use Rattle.gc_script.specs.Shapes.{Shape, plain, declaring, making, growing, collecting, showing, shape}
+use Rattle.gc_script.specs.Shapes.{CommandShape, plain, declaring, making, growing, collecting, showing, shape}
 use Rattle.gc_types.specs.Declarations.{Declaration}
 use Rattle.gc_script.specs.Steps as steps
-use Rattle.gc_script.specs.Steps.{Step, Answers, Does, first_failing, tests}
+use Rattle.gc_script.specs.Steps.{Step, AnswersShape, Does, first_failing, tests}
 use Rattle.gc_laws.proofs.WrittenLaws.{CountLeft, count_left}
 use Rattle.gc_script.specs.Policy as script_policy
 use Rattle.gc_script.specs.Policy.{policy_of, AsksNothing, FollowsDoing, FollowsTested, Follows, RunByPolicy, AllocatesByPolicy, GrowsByPolicy, with_made}
@@ -100,7 +100,7 @@ module _ (layouts : Layouts) (objects : List (Object ℕ)) (roots : List Referen
   prepares_holding counter size p q ok holding (policy.tried {m = m} {n = n} makes dues retry) =
       retry_holding size n q ok (dues_holding counter m n (makes_holding (count_try p) m true (counted_holding p holding) makes) dues) retry
 
-  expands_holding : (bytes : ℕ) (p q : PolicyState ℕ) (granted : Bool) → Holding p → Expands layouts bytes p granted q → Holding q
+  expands_holding : (bytes : ℕ) (p q : PolicyState ℕ) (granted : Bool) → Holding p → ExpandsTable layouts bytes p granted q → Holding q
   expands_holding bytes p q granted holding (policy.nothing none) = holding
   expands_holding bytes p q granted holding (policy.no_heap some makes) = makes_holding p q false holding makes
   expands_holding bytes p q granted holding (policy.grows {m = m} some makes grows) = grows_holding bytes m q granted (makes_holding p m true holding makes) grows
@@ -162,11 +162,11 @@ module _ (layouts : Layouts) (counter : Option ℕ) (s s' : State) (limits limit
   collects_held collects =
       held_after layouts s s' (policy_of s' limits') (may_collect_holding layouts s.table.objects (root_references s.table) (policy_of s limits) (policy_of s' limits') (own_held s held) collects) refl refl kept
 
-  declares_count : (d : Option Declaration) (answer : Reply) → steps.Declares d s answer s' → length s'.table.objects ≡ length s.table.objects
+  declares_count : (d : Option Declaration) (answer : Reply) → steps.AnswersDeclare d s answer s' → length s'.table.objects ≡ length s.table.objects
   declares_count d answer (steps.declared new spells may said after) = ap (λ (x : State). length x.table.objects) after
   declares_count d answer (steps.bad may said after) = ap (λ (x : State). length x.table.objects) after
 
-  does_held : (limit : Option ℕ) (sh : Shape) (answer : Reply) → CountLeft (visible s) sh → Does layouts limit s sh answer s' → FollowsDoing layouts counter s limits sh answer s' limits' → AllHeld s'
+  does_held : (limit : Option ℕ) (sh : CommandShape) (answer : Reply) → CountLeft (visible s) sh → Does layouts limit s sh answer s' → FollowsDoing layouts counter s limits sh answer s' limits' → AllHeld s'
   does_held limit (plain effect) answer count does follows = asks_held follows (ap (λ (x : State). length x.table.objects) does.1 ∙ count)
   does_held limit (declaring d) answer count does follows = asks_held follows (declares_count (d s.table.types) answer does)
   does_held limit (making d class object) answer count does follows = allocates_held (object (visible s)) answer follows
@@ -174,7 +174,7 @@ module _ (layouts : Layouts) (counter : Option ℕ) (s s' : State) (limits limit
   does_held limit (collecting told) answer count does follows = collects_held follows
   does_held limit showing answer count does follows = asks_held follows (ap (λ (x : State). length x.table.objects) does.1)
 
-  answers_held : (limit : Option ℕ) (sh : Shape) (found : Option Refusal) (answer : Reply) → CountLeft (visible s) sh → Answers layouts limit s sh found answer s' → FollowsTested layouts counter s limits sh found answer s' limits' → AllHeld s'
+  answers_held : (limit : Option ℕ) (sh : CommandShape) (found : Option Refusal) (answer : Reply) → CountLeft (visible s) sh → AnswersShape layouts limit s sh found answer s' → FollowsTested layouts counter s limits sh found answer s' limits' → AllHeld s'
   answers_held limit sh None answer count answers follows = does_held limit sh answer count answers follows
   answers_held limit sh (Some why) answer count answers follows = asks_held follows (ap (λ (x : State). length x.table.objects) answers.1)
 
@@ -191,7 +191,7 @@ run_held layouts counter s s' limits limits' (c ∷ cs) (r ∷ rs) sound held (m
 none_reached : (first max_scoped max_owned q : ℕ) → ¬ IsReached {D = ℕ} (start first max_scoped max_owned) q
 none_reached first max_scoped max_owned q (by_start starts) =
     let nulls : All (λ (r : Reference). r ≡ null) (root_references {D = ℕ} (start first max_scoped max_owned)) =
-    All-append (λ (r : Reference). r ≡ null) (slot_references (replicate global_count empty_slot)) [] (All-map (λ (r : Reference). r ≡ null) (λ (x : Slot). x.reference) (replicate global_count empty_slot) (All-replicate (λ (x : Slot). x.reference ≡ null) global_count empty_slot refl)) (All-nil (λ (r : Reference). r ≡ null)) in
+    All-append (λ (r : Reference). r ≡ null) (slot_references (replicate global_count null_slot)) [] (All-map (λ (r : Reference). r ≡ null) (λ (x : Slot). x.reference) (replicate global_count null_slot) (All-replicate (λ (x : Slot). x.reference ≡ null) global_count null_slot refl)) (All-nil (λ (r : Reference). r ≡ null)) in
     let is : at q ≡ null = All-contains (λ (r : Reference). r ≡ null) (root_references {D = ℕ} (start first max_scoped max_owned)) (at q) nulls starts in
     absurd (cc is)
 none_reached first max_scoped max_owned q (by_step {y = h} reached names) = none_reached first max_scoped max_owned h reached

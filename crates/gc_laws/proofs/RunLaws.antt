@@ -22,8 +22,8 @@ use Rattle.gc_commands.specs.declared.reply.Refusal.TheVariants as refusal
 use Rattle.gc_policy.specs.Accounts.{Account}
 use Rattle.gc_script.specs.State.{State, reference, with_heap, with_table, set_register, visible}
 use Rattle.gc_script.specs.Built.{is_built}
-use Rattle.gc_script.specs.Shapes.{Shape, plain, declaring, making, growing, collecting, of_objects, of_increments, showing, shape, new_struct, new_exception, new_array, new_fixed, new_bytes}
-use Rattle.gc_script.specs.Steps.{Step, Answers, Does, Declares, declared, bad, MakesNew, made, lacks, AnswersGrow, grown, refused, Keeps, new_tests, new_exn_tests, new_array_tests, new_fixed_tests, new_bytes_tests, built_tests, tests, first_failing}
+use Rattle.gc_script.specs.Shapes.{CommandShape, plain, declaring, making, growing, collecting, of_objects, of_increments, showing, shape, given_struct, new_exception, filled_array, new_fixed, new_bytes}
+use Rattle.gc_script.specs.Steps.{Step, AnswersShape, Does, AnswersDeclare, declared, bad, MakesNew, made, lacks, AnswersGrow, grown, refused, Keeps, new_tests, new_exn_tests, new_array_tests, new_fixed_tests, new_bytes_tests, built_tests, tests, first_failing}
 use Rattle.gc_script.specs.Run.{Run, SaysRefused}
 use Rattle.gc_laws.specs.Laws.{NoneRefused, SaysLarge, NoneLarge, SameAnswer, SameReply, SameReplies}
 use Rattle.gc_laws.proofs.StepLaws.{same_held}
@@ -35,7 +35,7 @@ grows_unseen limit bytes s t a granted (allocation.granted some may grow) = refl
 grows_unseen limit bytes s t a granted (no_heap some above) = refl
 grows_unseen limit bytes s t a granted (allocation.refused some may over) = refl
 
-same_answer : (sh : Shape) (answer answer' : Reply) → answer ≡ answer' → SameAnswer sh answer answer'
+same_answer : (sh : CommandShape) (answer answer' : Reply) → answer ≡ answer' → SameAnswer sh answer answer'
 same_answer showing answer answer' same = tt
 same_answer (collecting of_increments) answer answer' same = tt
 same_answer sh answer answer' same = same
@@ -46,7 +46,7 @@ module _ (layouts layouts' : Layouts) (limit limit' : Option ℕ) (s t : State) 
   SameKept = (answer answer' : Reply) → Keeps layouts s answer → Keeps layouts' t answer' → answer ≡ answer'
 
   -- what two steps have in common from such states, where no heap was refused pages
-  abbrev SameSteps : Shape → Reply → Reply → State → State → Type 0
+  abbrev SameSteps : CommandShape → Reply → Reply → State → State → Type 0
   SameSteps sh answer answer' s' t' = SameAnswer sh answer answer' × (visible s' ≡ visible t')
 
   -- states that are left as they were
@@ -56,7 +56,7 @@ module _ (layouts layouts' : Layouts) (limit limit' : Option ℕ) (s t : State) 
   same_types : s.table.types ≡ t.table.types
   same_types = ap (λ (v : State). v.table.types) seen
 
-  same_declares : (d : List Declaration → Option Declaration) (answer answer' : Reply) (s' t' : State) → Declares (d s.table.types) s answer s' → Declares (d t.table.types) t answer' t' → (answer ≡ answer') × (visible s' ≡ visible t')
+  same_declares : (d : List Declaration → Option Declaration) (answer answer' : Reply) (s' t' : State) → AnswersDeclare (d s.table.types) s answer s' → AnswersDeclare (d t.table.types) t answer' t' → (answer ≡ answer') × (visible s' ≡ visible t')
   same_declares d answer answer' s' t' (declared new spells may is after) (declared new' spells' may' is' after') = (
     is ∙ ap (λ (types : List Declaration). reply.Declared (length types)) same_types ∙ sym is',
     ap visible after ∙ ap (λ (v : State). with_table (declare new v.table) v) seen
@@ -86,7 +86,7 @@ module _ (layouts layouts' : Layouts) (limit limit' : Option ℕ) (s t : State) 
   same_grown bytes answer answer' s' t' (grown u a grows is after) (refused u1 a1 grows1 is1 after1) fine fine1 = absurd (fine1 (inr is1))
   same_grown bytes answer answer' s' t' (refused u a grows is after) grows1 fine fine1 = absurd (fine (inr is))
 
-  same_doing : (sh : Shape) (answer answer' : Reply) (s' t' : State) → (sh ≡ collecting of_objects → SameKept) → Does layouts limit s sh answer s' → Does layouts' limit' t sh answer' t' → ¬ SaysRefused answer → ¬ SaysRefused answer' → SameSteps sh answer answer' s' t'
+  same_doing : (sh : CommandShape) (answer answer' : Reply) (s' t' : State) → (sh ≡ collecting of_objects → SameKept) → Does layouts limit s sh answer s' → Does layouts' limit' t sh answer' t' → ¬ SaysRefused answer → ¬ SaysRefused answer' → SameSteps sh answer answer' s' t'
   same_doing (plain effect) answer answer' s' t' kept one other fine fine1 = (
     one.0 ∙ ap (λ (v : State). (effect v).0) seen ∙ sym other.0,
     ap visible one.1 ∙ ap (λ (v : State). visible (effect v).1) seen ∙ sym (ap visible other.1),
@@ -98,7 +98,7 @@ module _ (layouts layouts' : Layouts) (limit limit' : Option ℕ) (s t : State) 
   same_doing (collecting of_increments) answer answer' s' t' kept one other fine fine1 = (tt, ap visible one.1.1 ∙ seen ∙ sym (ap visible other.1.1))
   same_doing showing answer answer' s' t' kept one other fine fine1 = (tt, left_alike s' t' one.1 other.1)
 
-  same_answers : (sh : Shape) (found : Option Refusal) (answer answer' : Reply) (s' t' : State) → (sh ≡ collecting of_objects → SameKept) → Answers layouts limit s sh found answer s' → Answers layouts' limit' t sh found answer' t' → ¬ SaysRefused answer → ¬ SaysRefused answer' → SameSteps sh answer answer' s' t'
+  same_answers : (sh : CommandShape) (found : Option Refusal) (answer answer' : Reply) (s' t' : State) → (sh ≡ collecting of_objects → SameKept) → AnswersShape layouts limit s sh found answer s' → AnswersShape layouts' limit' t sh found answer' t' → ¬ SaysRefused answer → ¬ SaysRefused answer' → SameSteps sh answer answer' s' t'
   same_answers sh None answer answer' s' t' kept one other fine fine1 = same_doing sh answer answer' s' t' kept one other fine fine1
   same_answers sh (Some why) answer answer' s' t' kept one other fine fine1 = (same_answer sh answer answer' (one.0 ∙ sym other.0), left_alike s' t' one.1 other.1)
 
@@ -106,7 +106,7 @@ module _ (layouts layouts' : Layouts) (limit limit' : Option ℕ) (s t : State) 
   same_step : (c : Command) (answer answer' : Reply) (s' t' : State) → (shape c ≡ collecting of_objects → SameKept) → first_failing (tests layouts s c) ≡ first_failing (tests layouts' t c) → Step layouts limit s c answer s' → Step layouts' limit' t c answer' t' → ¬ SaysRefused answer → ¬ SaysRefused answer'
       → SameReply c answer answer' × (visible s' ≡ visible t')
   same_step c answer answer' s' t' kept found one other fine fine1 =
-      same_answers (shape c) (first_failing (tests layouts s c)) answer answer' s' t' kept one (subst (λ (f : Option Refusal). Answers layouts' limit' t (shape c) f answer' t') (sym found) other) fine fine1
+      same_answers (shape c) (first_failing (tests layouts s c)) answer answer' s' t' kept one (subst (λ (f : Option Refusal). AnswersShape layouts' limit' t (shape c) f answer' t') (sym found) other) fine fine1
 
 -- two runs from such states
 same_runs : (layouts : Layouts) (limit : Option ℕ) (cs : List Command) (rs qs : List Reply) (s t s' t' : State) → visible s ≡ visible t → Run layouts limit s cs rs s' → Run layouts limit t cs qs t' → NoneRefused rs → NoneRefused qs → SameReplies cs rs qs
@@ -153,16 +153,16 @@ seen_tests layouts v c = (not (is_built c), refusal.BadLine) ∷ built_tests lay
 
 -- where neither heap finds an object too large, the same test refuses a command of both
 tests_alike : (k l : Layouts) (v : State) (c : Command) → (first_failing (seen_tests k v c) ≡ Some refusal.TooLarge → ⊥) → (first_failing (seen_tests l v c) ≡ Some refusal.TooLarge → ⊥) → first_failing (seen_tests k v c) ≡ first_failing (seen_tests l v c)
-tests_alike k l v (New d t vs) small small' = large_cut ((not (is_built (New d t vs)), refusal.BadLine) ∷ new_tests v t vs) (large_in k v (new_struct v t vs)) (large_in l v (new_struct v t vs)) (full_test v) small small'
+tests_alike k l v (New d t vs) small small' = large_cut ((not (is_built (New d t vs)), refusal.BadLine) ∷ new_tests v t vs) (large_in k v (given_struct v t vs)) (large_in l v (given_struct v t vs)) (full_test v) small small'
 tests_alike k l v (NewExn d t tag vs) small small' =
     large_cut ((not (is_built (NewExn d t tag vs)), refusal.BadLine) ∷ new_exn_tests v t vs) (large_in k v (new_exception v t tag vs)) (large_in l v (new_exception v t tag vs)) (full_test v) small small'
-tests_alike k l v (NewArr d t n x) small small' = large_cut ((not (is_built (NewArr d t n x)), refusal.BadLine) ∷ new_array_tests v t n x) (large_in k v (new_array v t n x)) (large_in l v (new_array v t n x)) (full_test v) small small'
+tests_alike k l v (NewArr d t n x) small small' = large_cut ((not (is_built (NewArr d t n x)), refusal.BadLine) ∷ new_array_tests v t n x) (large_in k v (filled_array v t n x)) (large_in l v (filled_array v t n x)) (full_test v) small small'
 tests_alike k l v (Fixed d t vs) small small' = large_cut ((not (is_built (Fixed d t vs)), refusal.BadLine) ∷ new_fixed_tests v t vs) (large_in k v (new_fixed v t vs)) (large_in l v (new_fixed v t vs)) (full_test v) small small'
 tests_alike k l v (NewBytes d t bytes) small small' = large_cut ((not (is_built (NewBytes d t bytes)), refusal.BadLine) ∷ new_bytes_tests v t) (large_in k v (new_bytes t bytes)) (large_in l v (new_bytes t bytes)) (full_test v) small small'
 tests_alike k l v c small small' = refl
 
 -- a refusal of an object's size shows in the reply
-large_said : (layouts : Layouts) (limit : Option ℕ) (s : State) (sh : Shape) (found : Option Refusal) (answer : Reply) (s' : State) → Answers layouts limit s sh found answer s' → found ≡ Some refusal.TooLarge → SaysLarge answer
+large_said : (layouts : Layouts) (limit : Option ℕ) (s : State) (sh : CommandShape) (found : Option Refusal) (answer : Reply) (s' : State) → AnswersShape layouts limit s sh found answer s' → found ≡ Some refusal.TooLarge → SaysLarge answer
 large_said layouts limit s sh None answer s' answers is = absurd (cc (is))
 large_said layouts limit s sh (Some why) answer s' answers is = answers.0 ∙ ap reply.Refused (same_Some why refusal.TooLarge is)
 

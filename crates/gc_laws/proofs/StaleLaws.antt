@@ -29,11 +29,11 @@ use Rattle.gc_commands.specs.declared.reply.Refusal.TheVariants as refusal
 use Rattle.gc_script.specs.State.{State, Held, number, reference, begin, put_register, with_table, visible}
 use Rattle.gc_script.specs.Built.{is_built}
 use Rattle.gc_script.specs.Given.{is_struct, is_array, Given, gone, given_root, given_among, given, given_register, held_operand, is_unset, is_gone}
-use Rattle.gc_script.specs.Shapes.{Shape, plain, declaring, making, growing, collecting, showing, shape, new_struct, new_exception, new_array, new_fixed, reads, held_value, value_in, frame_value, global_value, pending_value}
+use Rattle.gc_script.specs.Shapes.{CommandShape, plain, declaring, making, growing, collecting, showing, shape, given_struct, new_exception, filled_array, new_fixed, reads, held_value, value_in, frame_value, global_value, pending_value}
 use Rattle.gc_script.specs.Steps as steps
-use Rattle.gc_script.specs.Steps.{Step, Answers, Does, first_failing, tests, value_tests, all_value_tests, element_tests, fields_tests, any_unset, count_in, writing_tests, bound_test, constant_test, heap_tests, built_tests, new_array_tests, new_fixed_tests}
+use Rattle.gc_script.specs.Steps.{Step, AnswersShape, Does, first_failing, tests, value_tests, all_value_tests, element_tests, fields_tests, any_unset, count_in, writing_tests, bound_test, constant_test, heap_tests, built_tests, new_array_tests, new_fixed_tests}
 use Rattle.gc_script.specs.Run.{Run}
-use Rattle.gc_laws.specs.Stale.{destination, NoneSets, HasObject, HasValue}
+use Rattle.gc_laws.specs.Stale.{destination, NoneSets, HasObject, HasOperand}
 use Rattle.gc_laws.proofs.SoundRegisters.{Sound, SoundHeld}
 use Rattle.gc_laws.proofs.PlainKept.{Kept}
 use Rattle.gc_laws.proofs.StepKept.{step_kept, run_sound, begin_sound}
@@ -109,7 +109,7 @@ module _ (layouts : Layouts) (s : State) (r : ℕ) (stale : given_register s r �
   object_built Bad has = absurd has
   object_built c has = refl
 
-  value_built : (c : Command) → HasValue c r → is_built c ≡ true
+  value_built : (c : Command) → HasOperand c r → is_built c ≡ true
   value_built Bad has = absurd has
   value_built c has = refl
 
@@ -117,7 +117,7 @@ module _ (layouts : Layouts) (s : State) (r : ℕ) (stale : given_register s r �
 refused_by : (layouts : Layouts) (limit : Option ℕ) (s s' : State) (c : Command) (answer : Reply) (why : Refusal) → is_built c ≡ true → Fails (built_tests layouts (visible s) c) why → Step layouts limit s c answer s' → answer ≡ reply.Refused why
 refused_by layouts limit s s' c answer why built fails step =
     let found = passes (not (is_built c)) refusal.BadLine why (built_tests layouts (visible s) c) (ap not built) fails in
-    (subst (λ (f : Option Refusal). Answers layouts limit s (shape c) f answer s') found.first step).0
+    (subst (λ (f : Option Refusal). AnswersShape layouts limit s (shape c) f answer s') found.first step).0
 
 pub object_refused : (layouts : Layouts) (limit : Option ℕ) (s s' : State) (c : Command) (answer : Reply) (r : ℕ) → given_register s r ≡ gone → HasObject s c r → Step layouts limit s c answer s' → answer ≡ reply.Refused refusal.Unrooted
 object_refused layouts limit s s' c answer r stale has step = refused_by layouts limit s s' c answer refusal.Unrooted (object_built layouts s r stale c has) (object_fails layouts s r stale c has) step
@@ -178,11 +178,11 @@ module _ (s : State) (r : ℕ) (stale : given_register s r ≡ gone) where
   some_refuse n field v some e = subst (λ (none : Bool). Refuses (cond none [] (value_tests s field v))) (sym (not_same n 0 (λ zero. omega (arith, zero, some)))) (value_refuses field v e)
 
 module _ (layouts : Layouts) (s : State) (r : ℕ) (stale : given_register s r ≡ gone) where
-  tests_refuse : (c : Command) → HasValue c r → Refuses (built_tests layouts s c)
-  tests_refuse (New d t vs) among = refuses_before (fields_tests s (struct_fields_at s.table.types t) vs) (heap_tests layouts s (new_struct s t vs)) (fields_refuse s r stale (struct_fields_at s.table.types t) vs among)
+  tests_refuse : (c : Command) → HasOperand c r → Refuses (built_tests layouts s c)
+  tests_refuse (New d t vs) among = refuses_before (fields_tests s (struct_fields_at s.table.types t) vs) (heap_tests layouts s (given_struct s t vs)) (fields_refuse s r stale (struct_fields_at s.table.types t) vs among)
   tests_refuse (NewExn d t tag vs) among = refuses_before (fields_tests s (exn_fields_at s.table.types t) vs) (heap_tests layouts s (new_exception s t tag vs)) (fields_refuse s r stale (exn_fields_at s.table.types t) vs among)
   tests_refuse (NewArr d t n v) has =
-      refuses_before (new_array_tests s t n v) (heap_tests layouts s (new_array s t n v))
+      refuses_before (new_array_tests s t n v) (heap_tests layouts s (filled_array s t n v))
       (refuses_later (is_none (elem_at s.table.types t)) refusal.NoSuchName _ (refuses_later (is_unset (given s v)) refusal.NoSuchName _ (some_refuse s r stale n (elem_at s.table.types t) v has.1 has.0)))
   tests_refuse (Fixed d t vs) among =
       refuses_before (new_fixed_tests s t vs) (heap_tests layouts s (new_fixed s t vs))
@@ -193,7 +193,7 @@ module _ (layouts : Layouts) (s : State) (r : ℕ) (stale : given_register s r �
       refuses_behind (writing_tests is_array s q v) _ (refuses_later (constant_test s q i).0 (constant_test s q i).1 _ (refuses_before (value_tests s _ v) (bound_test s q i ∷ []) (value_refuses s r stale _ v e)))
   tests_refuse _ has = absurd has
 
-pub value_refused : (layouts : Layouts) (limit : Option ℕ) (s s' : State) (c : Command) (answer : Reply) (r : ℕ) → given_register s r ≡ gone → HasValue c r → Step layouts limit s c answer s' → (why : Refusal) × (answer ≡ reply.Refused why)
+pub value_refused : (layouts : Layouts) (limit : Option ℕ) (s s' : State) (c : Command) (answer : Reply) (r : ℕ) → given_register s r ≡ gone → HasOperand c r → Step layouts limit s c answer s' → (why : Refusal) × (answer ≡ reply.Refused why)
 value_refused layouts limit s s' c answer r stale has step =
     let refuses = tests_refuse layouts (visible s) r stale c has in
     (refuses.why, refused_by layouts limit s s' c answer refuses.why (value_built layouts s r stale c has) refuses.fails step)
@@ -210,7 +210,7 @@ other_put r (Some d) (Some h) registers ne = other_register r d h registers ne
 
 module _ (r : ℕ) where
   -- a plain command leaves the register, and so does one that makes an object
-  abbrev LeavesPlain : State → Shape → Type 0
+  abbrev LeavesPlain : State → CommandShape → Type 0
   LeavesPlain s (plain effect) = (effect s).1.registers r ≡ s.registers r
   LeavesPlain s (making d class object) = ¬ (Some d ≡ Some r)
   LeavesPlain s _ = Unit {0}
@@ -246,7 +246,7 @@ module _ (r : ℕ) where
   abbrev held_by : State → Option Held
   held_by s = s.registers r
 
-  does_leave : (layouts : Layouts) (limit : Option ℕ) (s s' : State) (sh : Shape) (answer : Reply) → LeavesPlain (visible s) sh → Does layouts limit s sh answer s' → s'.registers r ≡ s.registers r
+  does_leave : (layouts : Layouts) (limit : Option ℕ) (s s' : State) (sh : CommandShape) (answer : Reply) → LeavesPlain (visible s) sh → Does layouts limit s sh answer s' → s'.registers r ≡ s.registers r
   does_leave layouts limit s s' (plain effect) answer leaves does = ap held_by does.1 ∙ leaves
   does_leave layouts limit s s' (declaring d) answer leaves (steps.declared new spells may said after) = ap held_by after
   does_leave layouts limit s s' (declaring d) answer leaves (steps.bad may said after) = ap held_by after
@@ -257,7 +257,7 @@ module _ (r : ℕ) where
   does_leave layouts limit s s' (collecting told) answer leaves does = ap held_by does.1.1
   does_leave layouts limit s s' showing answer leaves does = ap held_by does.1
 
-  answers_leave : (layouts : Layouts) (limit : Option ℕ) (s s' : State) (sh : Shape) (found : Option Refusal) (answer : Reply) → LeavesPlain (visible s) sh → Answers layouts limit s sh found answer s' → s'.registers r ≡ s.registers r
+  answers_leave : (layouts : Layouts) (limit : Option ℕ) (s s' : State) (sh : CommandShape) (found : Option Refusal) (answer : Reply) → LeavesPlain (visible s) sh → AnswersShape layouts limit s sh found answer s' → s'.registers r ≡ s.registers r
   answers_leave layouts limit s s' sh None answer leaves answers = does_leave layouts limit s s' sh answer leaves answers
   answers_leave layouts limit s s' sh (Some why) answer leaves answers = ap held_by answers.1
 

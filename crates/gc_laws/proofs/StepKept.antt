@@ -24,9 +24,9 @@ use Rattle.gc_commands.specs.declared.reply.Reply.{Reply}
 use Rattle.gc_commands.specs.declared.reply.Refusal.{Refusal}
 use Rattle.gc_script.specs.State.{State, reference, begin, with_heap, with_account, set_register, visible, over}
 use Rattle.gc_script.specs.Given.{given, given_value, given_values}
-use Rattle.gc_script.specs.Shapes.{Shape, plain, declaring, making, growing, collecting, showing, shape}
+use Rattle.gc_script.specs.Shapes.{CommandShape, plain, declaring, making, growing, collecting, showing, shape}
 use Rattle.gc_script.specs.Steps as steps
-use Rattle.gc_script.specs.Steps.{Step, Answers, Does, MakesNew, first_failing, tests}
+use Rattle.gc_script.specs.Steps.{Step, AnswersShape, Does, MakesNew, first_failing, tests}
 use Rattle.gc_script.specs.Run.{Run}
 use Rattle.gc_laws.proofs.KnownReach.{Known, KnownValue, made_reached}
 use Rattle.gc_laws.proofs.SoundRegisters.{Sound, sound_set, operand_known, operands_known}
@@ -47,7 +47,7 @@ bytes_all t [] = All-nil (KnownValue t)
 bytes_all t (b ∷ bytes) = All-cons (KnownValue t) (byte_value b) (map byte_value bytes) (All-nil (Known t)) (bytes_all t bytes)
 
 -- the values of an object that a command of that shape makes
-abbrev MakesKnown : State → Shape → Type 0
+abbrev MakesKnown : State → CommandShape → Type 0
 MakesKnown s (making d class object) = All (KnownValue s.table) (object_values (object s))
 MakesKnown s _ = Unit {0}
 
@@ -122,20 +122,20 @@ module _ (layouts : Layouts) (limit : Option ℕ) (s s' : State) (sound : Sound 
   grows_kept bytes granted t a (no_heap some refused) after = subst (Kept s) (sym after) (kept_pages s sound s.table.made s.table.pages a)
   grows_kept bytes granted t a (allocation.refused some may over) after = subst (Kept s) (sym after) (kept_pages s sound true _ a)
 
-  declares_kept : (d : Option Declaration) (answer : Reply) → steps.Declares d s answer s' → Kept s s'
+  declares_kept : (d : Option Declaration) (answer : Reply) → steps.AnswersDeclare d s answer s' → Kept s s'
   declares_kept d answer (steps.declared new spells may said after) =
       subst (Kept s) (sym after) (record { reached = λ q r. inl r; grows = omega arith; pushes = omega arith; gone = λ serial below none. none; sound = sound })
   declares_kept d answer (steps.bad may said after) = subst (Kept s) (sym after) (kept_same s sound)
 
   -- what a command of that shape keeps, where its effect on what is visible keeps so much
-  abbrev EffectKept : Shape → Type 0
+  abbrev EffectKept : CommandShape → Type 0
   EffectKept (plain effect) = Kept (visible s) (effect (visible s)).1
   EffectKept _ = Unit {0}
 
   over_kept : (v : State) → Kept (visible s) v → s' ≡ over s v → Kept s s'
   over_kept v k after = subst (Kept s) (sym after) (record { reached = k.reached; grows = k.grows; pushes = k.pushes; gone = k.gone; sound = k.sound })
 
-  does_kept : (sh : Shape) (answer : Reply) → EffectKept sh → MakesKnown (visible s) sh → Does layouts limit s sh answer s' → Kept s s'
+  does_kept : (sh : CommandShape) (answer : Reply) → EffectKept sh → MakesKnown (visible s) sh → Does layouts limit s sh answer s' → Kept s s'
   does_kept (plain effect) answer k known does = over_kept (effect (visible s)).1 k does.1
   does_kept (declaring d) answer k known does = declares_kept (d s.table.types) answer does
   does_kept (making d class object) answer k known does = makes_kept d class (object (visible s)) answer known does
@@ -144,7 +144,7 @@ module _ (layouts : Layouts) (limit : Option ℕ) (s s' : State) (sound : Sound 
   does_kept (collecting told) answer k known does = subst (Kept s) (sym does.1.1) (kept_account s sound does.1.0)
   does_kept showing answer k known does = subst (Kept s) (sym does.1) (kept_same s sound)
 
-  answers_kept : (sh : Shape) (found : Option Refusal) (answer : Reply) → EffectKept sh → MakesKnown (visible s) sh → Answers layouts limit s sh found answer s' → Kept s s'
+  answers_kept : (sh : CommandShape) (found : Option Refusal) (answer : Reply) → EffectKept sh → MakesKnown (visible s) sh → AnswersShape layouts limit s sh found answer s' → Kept s s'
   answers_kept sh None answer k known answers = does_kept sh answer k known answers
   answers_kept sh (Some why) answer k known answers = subst (Kept s) (sym answers.1) (kept_same s sound)
 

@@ -8,8 +8,8 @@ use Rattle.gc_model.specs.Reach.{IsKept, IsReached, IsHost, KeepsNumber}
 use Rattle.gc_commands.specs.declared.reply.Reply.{Reply}
 use Rattle.gc_commands.specs.declared.reply.Reply.TheVariants as reply
 use Rattle.gc_script.specs.State.{State, visible}
-use Rattle.gc_script.specs.Shapes.{Told, of_objects, of_increments}
-use Rattle.gc_script.specs.Steps.{Keeps, CountsSteps, Tells}
+use Rattle.gc_script.specs.Shapes.{ToldCount, of_objects, of_increments}
+use Rattle.gc_script.specs.Steps.{Keeps, TellsIncrements, Tells}
 use Rattle.gc_store.specs.IncrementCounts.{TakesIncrements, increments_where}
 use Rattle.gc_laws.proofs.SumLemmas.{same_number}
 
@@ -29,13 +29,13 @@ same_held layouts s t answer answer' seen one other =
     one.shows ∙ ap₂ (λ (n m : ℕ). reply.Held n m) objects hosts ∙ sym other.shows
 
 -- of one table it takes as many increments
-same_steps : (layouts : Layouts) (s t : State) (answer answer' : Reply) → s.table ≡ t.table → CountsSteps layouts s answer → CountsSteps layouts t answer' → answer ≡ answer'
+same_steps : (layouts : Layouts) (s t : State) (answer answer' : Reply) → s.table ≡ t.table → TellsIncrements layouts s answer → TellsIncrements layouts t answer' → answer ≡ answer'
 same_steps layouts s t answer answer' same one other =
     let takes : TakesIncrements layouts s.table other.increments = subst (λ (x : Table ℕ). TakesIncrements layouts x other.increments) (sym same) other.takes in
     let reached = same_number (IsReached s.table) one.takes.reached takes.reached one.takes.reaches takes.reaches in
     one.shows ∙ ap reply.Increments (one.takes.number ∙ ap (increments_where s.table.made layouts) reached ∙ sym takes.number) ∙ sym other.shows
 
 -- so it tells the same
-pub same_told : (layouts : Layouts) (s t : State) (told : Told) (answer answer' : Reply) → visible s ≡ visible t → s.table ≡ t.table → Tells layouts s told answer → Tells layouts t told answer' → answer ≡ answer'
+pub same_told : (layouts : Layouts) (s t : State) (told : ToldCount) (answer answer' : Reply) → visible s ≡ visible t → s.table ≡ t.table → Tells layouts s told answer → Tells layouts t told answer' → answer ≡ answer'
 same_told layouts s t of_objects answer answer' seen same one other = same_held layouts s t answer answer' seen one other
 same_told layouts s t of_increments answer answer' seen same one other = same_steps layouts s t answer answer' same one other

@@ -22,12 +22,12 @@ use Rattle.gc_commands.specs.declared.reply.Reply.{Reply}
 use Rattle.gc_commands.specs.declared.reply.Reply.TheVariants as reply
 use Rattle.gc_commands.specs.declared.reply.Refusal.{Refusal}
 use Rattle.gc_script.specs.State.{State, visible, with_table, with_heap}
-use Rattle.gc_script.specs.Given.{Target, object_target, target_among, target, target_values, field_of, given, given_value, value_named, given_register, is_struct, is_array}
-use Rattle.gc_script.specs.Shapes.{Shape, plain, declaring, making, growing, collecting, showing, shape, reads, value_in, frame_value, global_value, pending_value, kept_as, write_target, throw_target}
+use Rattle.gc_script.specs.Given.{Target, object_target, target_among, target, target_values, target_field, given, given_value, value_named, given_register, is_struct, is_array}
+use Rattle.gc_script.specs.Shapes.{CommandShape, plain, declaring, making, growing, collecting, showing, shape, reads, value_in, frame_value, global_value, pending_value, kept_as, write_target, throw_target}
 use Rattle.gc_script.specs.Steps as steps
-use Rattle.gc_script.specs.Steps.{Step, Answers, Does, first_failing, tests, built_tests, writing_tests, bound_test, constant_test, value_tests}
+use Rattle.gc_script.specs.Steps.{Step, AnswersShape, Does, first_failing, tests, built_tests, writing_tests, bound_test, constant_test, value_tests}
 use Rattle.gc_script.specs.Run.{Run}
-use Rattle.gc_laws.specs.Writes.{value_at, WritesTo, Writes, NoneWrites}
+use Rattle.gc_laws.specs.Writes.{object_value_at, WritesTo, Writes, NoneWrites}
 
 -- what a register names stands where it says
 abbrev StandsAt : Table ℕ → Option Target → Type 0
@@ -86,31 +86,31 @@ module _ (layouts : Layouts) (s : State) where
 
   field_bound : (r i : ℕ) (v : Operand) → first_failing (built_tests layouts s (SetField r i v)) ≡ None → i < length (target_values (target s r))
   field_bound r i v e =
-      let behind = constant_test s r i ∷ value_tests s (field_of s.table (target s r) i) v in
+      let behind = constant_test s r i ∷ value_tests s (target_field s.table (target s r) i) v in
       bound_passes r i behind (behind_passes (writing_tests is_struct s r v) (bound_test s r i ∷ behind) e)
 
   elem_bound : (r i : ℕ) (v : Operand) → first_failing (built_tests layouts s (SetElem r i v)) ≡ None → i < length (target_values (target s r))
   elem_bound r i v e =
-      let values = value_tests s (field_of s.table (target s r) i) v ++ bound_test s r i ∷ [] in
-      bound_passes r i [] (behind_passes (value_tests s (field_of s.table (target s r) i) v) (bound_test s r i ∷ [])
+      let values = value_tests s (target_field s.table (target s r) i) v ++ bound_test s r i ∷ [] in
+      bound_passes r i [] (behind_passes (value_tests s (target_field s.table (target s r) i) v) (bound_test s r i ∷ [])
       (behind_passes (constant_test s r i ∷ []) values (behind_passes (writing_tests is_array s r v) (constant_test s r i ∷ values) e)))
 
 -- a value is written where the object of a target has one
 target_written : (s : State) (found : Option Target) (index : ℕ) (operand : Operand) (p i : ℕ) (v : Value) → StandsAt s.table found → index < length (target_values found) → WritesTo s found index operand p i v
-    → value_of i (slice_get (write_target found index (kept_as (field_of s.table found index) (given_value (given s operand))) s.table).objects p) ≡ Some v
+    → value_of i (slice_get (write_target found index (kept_as (target_field s.table found index) (given_value (given s operand))) s.table).objects p) ≡ Some v
 target_written s None index operand p i v stands inside writes = absurd writes
 target_written s (Some found) index operand p i v stands inside writes =
-    let w = kept_as (field_of s.table (Some found) index) (given_value (given s operand)) in
+    let w = kept_as (target_field s.table (Some found) index) (given_value (given s operand)) in
     let there = slice_get-change_at_same found.position (with_value index w) s.table.objects found.object stands in
     let here : value_of index (slice_get (change_at found.position (with_value index w) s.table.objects) found.position) ≡ Some w = ap (value_of index) there ∙ written_here index w found.object inside in
     subst (λ (q : ℕ). value_of i (slice_get (change_at found.position (with_value index w) s.table.objects) q) ≡ Some v) writes.0
     (subst (λ (j : ℕ). value_of j (slice_get (change_at found.position (with_value index w) s.table.objects) found.position) ≡ Some v) writes.1 (here ∙ ap Some (sym writes.2)))
 
 target_beside : (s : State) (found : Option Target) (index : ℕ) (operand : Operand) (p i : ℕ) → StandsAt s.table found → ((v : Value) → ¬ WritesTo s found index operand p i v)
-    → value_of i (slice_get (write_target found index (kept_as (field_of s.table found index) (given_value (given s operand))) s.table).objects p) ≡ value_of i (slice_get s.table.objects p)
+    → value_of i (slice_get (write_target found index (kept_as (target_field s.table found index) (given_value (given s operand))) s.table).objects p) ≡ value_of i (slice_get s.table.objects p)
 target_beside s None index operand p i stands none = refl
 target_beside s (Some found) index operand p i stands none =
-    let w = kept_as (field_of s.table (Some found) index) (given_value (given s operand)) in
+    let w = kept_as (target_field s.table (Some found) index) (given_value (given s operand)) in
     elim (cases_eq p found.position) [
       | inl same ↦ elim (cases_eq i index) [
         | inl at_index ↦ absurd (none w (sym same, sym at_index, refl))
@@ -125,7 +125,7 @@ target_beside s (Some found) index operand p i stands none =
     ]
 
 -- a command that is done was refused by no test
-done_found : (layouts : Layouts) (limit : Option ℕ) (s s' : State) (sh : Shape) (found : Option Refusal) → Answers layouts limit s sh found reply.Done s' → (found ≡ None) × Does layouts limit s sh reply.Done s'
+done_found : (layouts : Layouts) (limit : Option ℕ) (s s' : State) (sh : CommandShape) (found : Option Refusal) → AnswersShape layouts limit s sh found reply.Done s' → (found ≡ None) × Does layouts limit s sh reply.Done s'
 done_found layouts limit s s' sh None answers = (refl, answers)
 done_found layouts limit s s' sh (Some why) answers = absurd (cc (answers.0))
 
@@ -143,18 +143,18 @@ new_made layouts limit s s' d class o (steps.lacks t a lacking said after) = abs
 pub made_is : (layouts : Layouts) (limit : Option ℕ) (s s' : State) (c : Command) (d : ℕ) (class : GcClass) (object : State → Object ℕ) → shape c ≡ making d class object
     → Step layouts limit s c reply.Done s' → slice_get s'.table.objects (length s.table.objects) ≡ Some (object (visible s))
 made_is layouts limit s s' c d class object is step =
-    new_made layouts limit s s' d class (object (visible s)) (subst (λ (sh : Shape). Does layouts limit s sh reply.Done s') is (done_does layouts limit s s' c step).1)
+    new_made layouts limit s s' d class (object (visible s)) (subst (λ (sh : CommandShape). Does layouts limit s sh reply.Done s') is (done_does layouts limit s s' c step).1)
 
 -- what is written stands there
-pub written_is : (layouts : Layouts) (limit : Option ℕ) (s s' : State) (c : Command) (p i : ℕ) (v : Value) → Step layouts limit s c reply.Done s' → Writes s c p i v → value_at s'.table p i ≡ Some v
+pub written_is : (layouts : Layouts) (limit : Option ℕ) (s s' : State) (c : Command) (p i : ℕ) (v : Value) → Step layouts limit s c reply.Done s' → Writes s c p i v → object_value_at s'.table p i ≡ Some v
 written_is layouts limit s s' (SetField r index operand) p i v step writes =
     let done = done_does layouts limit s s' (SetField r index operand) step in
     let inside = field_bound layouts (visible s) r index operand done.0 in
-    ap (λ (x : State). value_at x.table p i) done.1.1 ∙ target_written (visible s) (target s r) index operand p i v (target_stands s r) inside writes
+    ap (λ (x : State). object_value_at x.table p i) done.1.1 ∙ target_written (visible s) (target s r) index operand p i v (target_stands s r) inside writes
 written_is layouts limit s s' (SetElem r index operand) p i v step writes =
     let done = done_does layouts limit s s' (SetElem r index operand) step in
     let inside = elem_bound layouts (visible s) r index operand done.0 in
-    ap (λ (x : State). value_at x.table p i) done.1.1 ∙ target_written (visible s) (target s r) index operand p i v (target_stands s r) inside writes
+    ap (λ (x : State). object_value_at x.table p i) done.1.1 ∙ target_written (visible s) (target s r) index operand p i v (target_stands s r) inside writes
 written_is layouts limit s s' c p i v step writes = absurd writes
 
 -- the objects that a plain command leaves, but for one that writes
@@ -172,10 +172,10 @@ throw_objects t (Some found) = refl
 
 -- a plain command leaves a value where it doesn't write, and as many objects
 record LeavesValue (s v : State) (p i : ℕ) : Type 0 where
-  same : value_at v.table p i ≡ value_at s.table p i
+  same : object_value_at v.table p i ≡ object_value_at s.table p i
   count : length v.table.objects ≡ length s.table.objects
 
-abbrev PlainLeaves : ℕ → ℕ → State → Shape → Type 0
+abbrev PlainLeaves : ℕ → ℕ → State → CommandShape → Type 0
 PlainLeaves p i s (plain effect) = LeavesValue s (effect s).1 p i
 PlainLeaves p i s _ = Unit {0}
 
@@ -190,11 +190,11 @@ module _ (p i : ℕ) (s : State) where
   plain_leaves : (c : Command) → ((v : Value) → ¬ Writes s c p i v) → PlainLeaves p i s (shape c)
   plain_leaves (SetField r index operand) none = record {
     same = target_beside s (target s r) index operand p i (target_stands s r) none;
-    count = write_count (target s r) index (kept_as (field_of s.table (target s r) index) (given_value (given s operand)));
+    count = write_count (target s r) index (kept_as (target_field s.table (target s r) index) (given_value (given s operand)));
   }
   plain_leaves (SetElem r index operand) none = record {
     same = target_beside s (target s r) index operand p i (target_stands s r) none;
-    count = write_count (target s r) index (kept_as (field_of s.table (target s r) index) (given_value (given s operand)));
+    count = write_count (target s r) index (kept_as (target_field s.table (target s r) index) (given_value (given s operand)));
   }
   plain_leaves (Field r index into) none = by_objects _ (read_objects s (value_in s r index) into)
   plain_leaves (Elem r index into) none = by_objects _ (read_objects s (value_in s r index) into)
@@ -220,13 +220,13 @@ module _ (p i : ℕ) (s : State) where
   plain_leaves c none = record { same = refl; count = refl }
 
 -- a plain command leaves as many objects
-abbrev pub CountLeft : State → Shape → Type 0
+abbrev pub CountLeft : State → CommandShape → Type 0
 CountLeft s (plain effect) = length (effect s).1.table.objects ≡ length s.table.objects
 CountLeft s _ = Unit {0}
 
 pub count_left : (s : State) (c : Command) → CountLeft s (shape c)
-count_left s (SetField r index operand) = write_count 0 0 s (target s r) index (kept_as (field_of s.table (target s r) index) (given_value (given s operand)))
-count_left s (SetElem r index operand) = write_count 0 0 s (target s r) index (kept_as (field_of s.table (target s r) index) (given_value (given s operand)))
+count_left s (SetField r index operand) = write_count 0 0 s (target s r) index (kept_as (target_field s.table (target s r) index) (given_value (given s operand)))
+count_left s (SetElem r index operand) = write_count 0 0 s (target s r) index (kept_as (target_field s.table (target s r) index) (given_value (given s operand)))
 count_left s (Field r index into) = ap length (read_objects s (value_in s r index) into)
 count_left s (Elem r index into) = ap length (read_objects s (value_in s r index) into)
 count_left s (Load k d) = ap length (read_objects s (frame_value s k) (Some d))
@@ -260,7 +260,7 @@ old_value xs o p i stands = elim ((slice_get_cases xs p).1) [
 module _ (layouts : Layouts) (limit : Option ℕ) (s s' : State) (p i : ℕ) (stands : p < length s.table.objects) where
   -- the value stays, and no object vanishes
   record Leaves : Type 0 where
-    same : value_at s'.table p i ≡ value_at s.table p i
+    same : object_value_at s'.table p i ≡ object_value_at s.table p i
     more : length s.table.objects ≤ length s'.table.objects
 
   left : (v : State) → s' ≡ v → v.table.objects ≡ s.table.objects → Leaves
@@ -279,10 +279,10 @@ module _ (layouts : Layouts) (limit : Option ℕ) (s s' : State) (p i : ℕ) (st
   grown_objects bytes granted t (no_heap some refused) = refl
   grown_objects bytes granted t (allocation.refused some may over) = refl
 
-  does_leave : (sh : Shape) (answer : Reply) → PlainLeaves p i (visible s) sh → Does layouts limit s sh answer s' → Leaves
+  does_leave : (sh : CommandShape) (answer : Reply) → PlainLeaves p i (visible s) sh → Does layouts limit s sh answer s' → Leaves
   does_leave (plain effect) answer leaves does =
       let count : length s'.table.objects ≡ length s.table.objects = ap (λ (x : State). length x.table.objects) does.1 ∙ leaves.count in
-      record { same = ap (λ (x : State). value_at x.table p i) does.1 ∙ leaves.same; more = omega arith }
+      record { same = ap (λ (x : State). object_value_at x.table p i) does.1 ∙ leaves.same; more = omega arith }
   does_leave (declaring d) answer leaves (steps.declared new spells may said after) = left _ after refl
   does_leave (declaring d) answer leaves (steps.bad may said after) = left s after refl
   does_leave (making d class object) answer leaves (steps.made t a allocates said after) =
@@ -295,7 +295,7 @@ module _ (layouts : Layouts) (limit : Option ℕ) (s s' : State) (p i : ℕ) (st
   does_leave (collecting told) answer leaves does = left _ does.1.1 refl
   does_leave showing answer leaves does = left s does.1 refl
 
-  answers_leave : (sh : Shape) (found : Option Refusal) (answer : Reply) → PlainLeaves p i (visible s) sh → Answers layouts limit s sh found answer s' → Leaves
+  answers_leave : (sh : CommandShape) (found : Option Refusal) (answer : Reply) → PlainLeaves p i (visible s) sh → AnswersShape layouts limit s sh found answer s' → Leaves
   answers_leave sh None answer leaves answers = does_leave sh answer leaves answers
   answers_leave sh (Some why) answer leaves answers = left s answers.1 refl
 
@@ -303,8 +303,8 @@ module _ (layouts : Layouts) (limit : Option ℕ) (s s' : State) (p i : ℕ) (st
   step_leaves c answer none step = answers_leave (shape c) (first_failing (tests layouts s c)) answer (plain_leaves p i (visible s) c none) step
 
 -- a value that no command of a run writes is as it was
-pub unwritten_is : (layouts : Layouts) (limit : Option ℕ) (s s' : State) (cs : List Command) (rs : List Reply) (p i : ℕ) (run : Run layouts limit s cs rs s') → p < length s.table.objects → NoneWrites layouts limit s cs rs s' run p i → value_at s'.table p i ≡ value_at s.table p i
-unwritten_is layouts limit s s' [] [] p i run stands none = ap (λ (x : State). value_at x.table p i) run
+pub unwritten_is : (layouts : Layouts) (limit : Option ℕ) (s s' : State) (cs : List Command) (rs : List Reply) (p i : ℕ) (run : Run layouts limit s cs rs s') → p < length s.table.objects → NoneWrites layouts limit s cs rs s' run p i → object_value_at s'.table p i ≡ object_value_at s.table p i
+unwritten_is layouts limit s s' [] [] p i run stands none = ap (λ (x : State). object_value_at x.table p i) run
 unwritten_is layouts limit s s' [] (r ∷ rs) p i run stands none = absurd run
 unwritten_is layouts limit s s' (c ∷ cs) [] p i run stands none = absurd run
 unwritten_is layouts limit s s' (c ∷ cs) (r ∷ rs) p i run stands none =

@@ -12,7 +12,7 @@ use Rattle.gc_commands.specs.declared.reply.Reply.{Reply}
 use Rattle.gc_commands.specs.declared.reply.Reply.TheVariants as reply
 use Rattle.gc_commands.specs.declared.reply.Refusal.TheVariants as refusal
 use Rattle.gc_script.specs.State.{State, visible}
-use Rattle.gc_script.specs.Shapes.{Shape, making, growing, collecting, of_increments, showing, shape}
+use Rattle.gc_script.specs.Shapes.{CommandShape, making, growing, collecting, of_increments, showing, shape}
 use Rattle.gc_script.specs.Steps.{tests, first_failing}
 use Rattle.gc_script.specs.Run.{SaysRefused}
 
@@ -31,7 +31,7 @@ NoneLarge [] = Unit {0}
 NoneLarge (r ∷ rs) = (¬ SaysLarge r) × NoneLarge rs
 
 -- two replies of a command of that shape are the same; those that show the heap's pages or count increments may differ
-abbrev pub SameAnswer : Shape → Reply → Reply → Type 0
+abbrev pub SameAnswer : CommandShape → Reply → Reply → Type 0
 SameAnswer showing r q = Unit {0}
 SameAnswer (collecting of_increments) r q = Unit {0}
 SameAnswer _ r q = r ≡ q
@@ -56,16 +56,16 @@ abbrev pub RunsOut : Layouts → ℕ → Placing → Table ℕ → Object ℕ �
 RunsOut layouts most places t o = PassesLimit most t (need_of layouts (object_size layouts t.types o)) × LacksFit layouts places (make_heap t) (object_size layouts t.types o)
 
 -- a command of that shape makes an object for which the heap runs out
-abbrev pub LacksRoom : Layouts → ℕ → State → Shape → Type 0
-LacksRoom layouts most s (making d class object) = RunsOut layouts most s.account.places s.table (object (visible s))
-LacksRoom layouts most s _ = ⊥
+abbrev pub ShapeRunsOut : Layouts → ℕ → State → CommandShape → Type 0
+ShapeRunsOut layouts most s (making d class object) = RunsOut layouts most s.account.places s.table (object (visible s))
+ShapeRunsOut layouts most s _ = ⊥
 
 -- Where a command is refused for want of room: its tests all pass, it makes an object, and the heap runs out.
 abbrev pub IsOutOfMemory : Layouts → ℕ → State → Command → Type 0
-IsOutOfMemory layouts most s c = (first_failing (tests layouts s c) ≡ None) × LacksRoom layouts most s (shape c)
+IsOutOfMemory layouts most s c = (first_failing (tests layouts s c) ≡ None) × ShapeRunsOut layouts most s (shape c)
 
 -- a command of that shape is a growth by some bytes that would pass the limit
-abbrev pub GrowsPast : ℕ → State → Shape → Type 0
+abbrev pub GrowsPast : ℕ → State → CommandShape → Type 0
 GrowsPast most s (growing n) = (0 < n) × PassesLimit most s.table n
 GrowsPast most s _ = ⊥
 

@@ -53,11 +53,11 @@ HasObject s (Throw q) r = q ≡ r
 HasObject s _ r = ⊥
 
 -- a command has the register as a value that it looks at: `newarr` does where it makes an element
-abbrev pub HasValue : Command → ℕ → Type 0
-HasValue (New d t vs) r = Contains vs (Register r)
-HasValue (NewExn d t tag vs) r = Contains vs (Register r)
-HasValue (NewArr d t n v) r = (v ≡ Register r) × (0 < n)
-HasValue (Fixed d t vs) r = Contains vs (Register r)
-HasValue (SetField q i v) r = v ≡ Register r
-HasValue (SetElem q i v) r = v ≡ Register r
-HasValue _ r = ⊥
+abbrev pub HasOperand : Command → ℕ → Type 0
+HasOperand (New d t vs) r = Contains vs (Register r)
+HasOperand (NewExn d t tag vs) r = Contains vs (Register r)
+HasOperand (NewArr d t n v) r = (v ≡ Register r) × (0 < n)
+HasOperand (Fixed d t vs) r = Contains vs (Register r)
+HasOperand (SetField q i v) r = v ≡ Register r
+HasOperand (SetElem q i v) r = v ≡ Register r
+HasOperand _ r = ⊥

@@ -8,19 +8,19 @@ use Rattle.gc_commands.specs.declared.command.Command.{Command}
 use Rattle.gc_commands.specs.declared.command.Command.TheVariants.{SetField, SetElem}
 use Rattle.gc_commands.specs.declared.command.Operand.{Operand}
 use Rattle.gc_commands.specs.declared.reply.Reply.{Reply}
-use Rattle.gc_script.specs.Given.{Target, target, field_of, given, given_value}
+use Rattle.gc_script.specs.Given.{Target, target, target_field, given, given_value}
 use Rattle.gc_script.specs.Run.{Run}
 use Rattle.gc_script.specs.Shapes.{kept_as}
 use Rattle.gc_script.specs.State.{State}
 
 -- the value at an index of the object at a position, where there is one
-abbrev pub value_at : Table ℕ → ℕ → ℕ → Option Value
-value_at t p i = option_and_then (λ (o : Object ℕ). slice_get (object_values o) i) (slice_get t.objects p)
+abbrev pub object_value_at : Table ℕ → ℕ → ℕ → Option Value
+object_value_at t p i = option_and_then (λ (o : Object ℕ). slice_get (object_values o) i) (slice_get t.objects p)
 
 -- a value of what a register names is at an index of a position, and an operand as that object keeps it is v
 abbrev pub WritesTo : State → Option Target → ℕ → Operand → ℕ → ℕ → Value → Type 0
 WritesTo s None index operand p i v = ⊥
-WritesTo s (Some found) index operand p i v = (found.position ≡ p) × (index ≡ i) × (v ≡ kept_as (field_of s.table (Some found) index) (given_value (given s operand)))
+WritesTo s (Some found) index operand p i v = (found.position ≡ p) × (index ≡ i) × (v ≡ kept_as (target_field s.table (Some found) index) (given_value (given s operand)))
 
 -- a command writes v at an index of a position, where no test refuses it
 abbrev pub Writes : State → Command → ℕ → ℕ → Value → Type 0

@@ -21,8 +21,8 @@ ghost use Rattle.gc_script.specs.Shapes.{making, shape};
 ghost use Rattle.gc_script.specs.Policy.{RunByPolicy};
 ghost use Rattle.gc_script.specs.Steps.{Step};
 ghost use Rattle.gc_script.specs.Run.{Run};
-ghost use Rattle.gc_laws.specs.Writes.{value_at, Writes, NoneWrites};
-ghost use Rattle.gc_laws.specs.Stale.{NoneSets, HasObject, HasValue};
+ghost use Rattle.gc_laws.specs.Writes.{object_value_at, Writes, NoneWrites};
+ghost use Rattle.gc_laws.specs.Stale.{NoneSets, HasObject, HasOperand};
 
 /// What is rooted stays. After any run by the policy of growth from an empty table, over a heap of any kind, the heap
 /// holds each position that is reached, and its values are those last written: a new object has those that it was made
@@ -36,10 +36,10 @@ pub fn rooted_stays()
         → shape c ≡ making d class object
         → Step layouts limit s c reply.Done s' → slice_get s'.table.objects (length s.table.objects) ≡ Some (object (visible s)) }
     ensures written { (layouts : Layouts) (limit : Option ℕ) (s s' : State) (c : Command) (p i : ℕ) (v : Value)
-        → Step layouts limit s c reply.Done s' → Writes s c p i v → value_at s'.table p i ≡ Some v }
+        → Step layouts limit s c reply.Done s' → Writes s c p i v → object_value_at s'.table p i ≡ Some v }
     ensures unwritten { (layouts : Layouts) (limit : Option ℕ) (s s' : State) (cs : List Command) (rs : List Reply) (p i : ℕ)
         (run : Run layouts limit s cs rs s')
-        → p < length s.table.objects → NoneWrites layouts limit s cs rs s' run p i → value_at s'.table p i ≡ value_at s.table p i }
+        → p < length s.table.objects → NoneWrites layouts limit s cs rs s' run p i → object_value_at s'.table p i ≡ object_value_at s.table p i }
 {}
 
 /// Garbage really goes. In a copying and in a counting heap `held N M` tells exactly how many positions are reached, and
@@ -64,5 +64,5 @@ pub fn stale_handles_are_refused()
     ensures object { (layouts : Layouts) (limit : Option ℕ) (s s' : State) (c : Command) (answer : Reply) (r : ℕ)
         → given_register s r ≡ gone → HasObject s c r → Step layouts limit s c answer s' → answer ≡ reply.Refused refusal.Unrooted }
     ensures value { (layouts : Layouts) (limit : Option ℕ) (s s' : State) (c : Command) (answer : Reply) (r : ℕ)
-        → given_register s r ≡ gone → HasValue c r → Step layouts limit s c answer s' → (why : Refusal) × (answer ≡ reply.Refused why) }
+        → given_register s r ≡ gone → HasOperand c r → Step layouts limit s c answer s' → (why : Refusal) × (answer ≡ reply.Refused why) }
 {}

@@ -22,14 +22,14 @@ use Rattle.gc_commands.specs.declared.command.Command.TheVariants.{Bad, ReadByte
 use Rattle.gc_commands.specs.declared.reply.Reply.{Reply}
 use Rattle.gc_commands.specs.declared.reply.Refusal.{Refusal}
 use Rattle.gc_script.specs.State.{State, HeldOwned, owned, unrooted, visible, over}
-use Rattle.gc_script.specs.Given.{given, given_value, given_register, Target, target, field_of}
-use Rattle.gc_script.specs.Shapes.{Shape, plain, declaring, making, growing, collecting, showing, shape, value_in, kept_as, write_target, throw_target, frame_value, global_value, pending_value, given_up, slot_of}
+use Rattle.gc_script.specs.Given.{given, given_value, given_register, Target, target, target_field}
+use Rattle.gc_script.specs.Shapes.{CommandShape, plain, declaring, making, growing, collecting, showing, shape, value_in, kept_as, write_target, throw_target, frame_value, global_value, pending_value, owned_given_up, slot_of}
 use Rattle.gc_script.specs.Shapes as shapes
 use Rattle.gc_script.specs.Steps as steps
-use Rattle.gc_script.specs.Steps.{Step, Answers, Does, MakesNew, first_failing, tests}
+use Rattle.gc_script.specs.Steps.{Step, AnswersShape, Does, MakesNew, first_failing, tests}
 use Rattle.gc_script.specs.Run.{Run}
 use Rattle.gc_values.specs.declared.root.GcRootIndex.{GcRootIndex}
-use Rattle.gc_lists.specs.Versions.{Stands, VersionNames}
+use Rattle.gc_lists.specs.Versions.{VersionStands, VersionNames}
 
 -- There is an owned root of that number, which names that.
 pub record HasRoot (roots : List Owned) (number : ℕ) (r : Reference) : Type 0 where
@@ -68,7 +68,7 @@ handles_apart n root true = (refl, refl)
 handles_apart n root false = (refl, refl)
 
 -- what is left where a handle was given up was there
-left_was_there : (held : Option HeldOwned) (roots : List Owned) (root : Owned) → Contains (given_up held roots) root → HasRoot roots root.number root.reference
+left_was_there : (held : Option HeldOwned) (roots : List Owned) (root : Owned) → Contains (owned_given_up held roots) root → HasRoot roots root.number root.reference
 left_was_there None roots root there = has_itself roots root there
 left_was_there (Some unrooted) roots root there = has_itself roots root there
 left_was_there (Some (owned c n)) roots root there =
@@ -118,7 +118,7 @@ write_owned t (Some found) i v = stay_owned t (write_target (Some found) i v t) 
 
 -- Plain commands
 
-abbrev KeptBy : State → Shape → Type 0
+abbrev KeptBy : State → CommandShape → Type 0
 KeptBy s (plain effect) = KeepsOwned s.table (effect s).1.table
 KeptBy s _ = Unit {0}
 
@@ -129,8 +129,8 @@ plain_keeps : (s : State) (c : Command) → KeptBy s (shape c)
 plain_keeps s (I31 d n) = others_keep s (shapes.makes_small d n s).1 refl refl
 plain_keeps s (Field r i into) = read_owned s.table (value_in s r i)
 plain_keeps s (Elem r i into) = read_owned s.table (value_in s r i)
-plain_keeps s (SetField r i v) = write_owned s.table (target s r) i (kept_as (field_of s.table (target s r) i) (given_value (given s v)))
-plain_keeps s (SetElem r i v) = write_owned s.table (target s r) i (kept_as (field_of s.table (target s r) i) (given_value (given s v)))
+plain_keeps s (SetField r i v) = write_owned s.table (target s r) i (kept_as (target_field s.table (target s r) i) (given_value (given s v)))
+plain_keeps s (SetElem r i v) = write_owned s.table (target s r) i (kept_as (target_field s.table (target s r) i) (given_value (given s v)))
 plain_keeps s Leave = others_keep s (shapes.leaves s).1 refl refl
 plain_keeps s (Push k) = others_keep s (shapes.opens_frame k s).1 refl refl
 plain_keeps s Pop = others_keep s (shapes.closes_frame s).1 refl refl
@@ -174,7 +174,7 @@ module _ (layouts : Layouts) (limit : Option ℕ) (s u : State) where
   grows_keeps bytes granted t (no_heap some refused) = stay_owned s.table t refl refl
   grows_keeps bytes granted t (allocation.refused some may over) = stay_owned s.table t refl refl
 
-  declares_keeps : (d : Option Declaration) (answer : Reply) → steps.Declares d s answer u → KeepsOwned s.table u.table
+  declares_keeps : (d : Option Declaration) (answer : Reply) → steps.AnswersDeclare d s answer u → KeepsOwned s.table u.table
   declares_keeps d answer (steps.declared new spells may said after) = by_table (declare new s.table) (ap (λ (x : State). x.table) after) (stay_owned s.table (declare new s.table) refl refl)
   declares_keeps d answer (steps.bad may said after) = by_table s.table (ap (λ (x : State). x.table) after) (stay_owned s.table s.table refl refl)
 
@@ -182,7 +182,7 @@ module _ (layouts : Layouts) (limit : Option ℕ) (s u : State) where
   over_keeps : (v : State) → KeepsOwned (visible s).table v.table → u ≡ over s v → KeepsOwned s.table u.table
   over_keeps v keeps after = by_table (over s v).table (ap (λ (x : State). x.table) after) (record { counted = keeps.counted; named = keeps.named })
 
-  does_keeps : (sh : Shape) (answer : Reply) → KeptBy (visible s) sh → Does layouts limit s sh answer u → KeepsOwned s.table u.table
+  does_keeps : (sh : CommandShape) (answer : Reply) → KeptBy (visible s) sh → Does layouts limit s sh answer u → KeepsOwned s.table u.table
   does_keeps (plain effect) answer kept does = over_keeps (effect (visible s)).1 kept does.1
   does_keeps (declaring d) answer kept does = declares_keeps (d s.table.types) answer does
   does_keeps (making d class object) answer kept does = makes_keeps d class (object (visible s)) answer does
@@ -191,7 +191,7 @@ module _ (layouts : Layouts) (limit : Option ℕ) (s u : State) where
   does_keeps (collecting told) answer kept does = by_table s.table (ap (λ (x : State). x.table) does.1.1) (stay_owned s.table s.table refl refl)
   does_keeps showing answer kept does = by_table s.table (ap (λ (x : State). x.table) does.1) (stay_owned s.table s.table refl refl)
 
-  answers_keep : (sh : Shape) (found : Option Refusal) (answer : Reply) → KeptBy (visible s) sh → Answers layouts limit s sh found answer u → KeepsOwned s.table u.table
+  answers_keep : (sh : CommandShape) (found : Option Refusal) (answer : Reply) → KeptBy (visible s) sh → AnswersShape layouts limit s sh found answer u → KeepsOwned s.table u.table
   answers_keep sh None answer kept answers = does_keeps sh answer kept answers
   answers_keep sh (Some why) answer kept answers = by_table s.table (ap (λ (x : State). x.table) answers.1) (stay_owned s.table s.table refl refl)
 
@@ -244,7 +244,7 @@ module _ (layouts : Layouts) (store : StoreView ℕ) (t : Table ℕ) (holds : Ho
 
   -- so a version that is live stands still for what it stood for, where that stays
   pub version_kept : (limit : Option ℕ) (s u : State) (cs : List Command) (rs : List Reply) → s.table ≡ t → Run layouts limit s cs rs u → (new : StoreView ℕ) (version : Option GcRootIndex) (r : Reference) (Is Still : Reference → Type 0)
-      → ((q : Reference) → Is q → Still q) → Stands store t version Is → VersionNames new u.table version r → Stands new u.table version Still
+      → ((q : Reference) → Is q → Still q) → VersionStands store t version Is → VersionNames new u.table version r → VersionStands new u.table version Still
   version_kept limit s u cs rs is run new version r Is Still stays stands names =
       record { reference = r; names = names; is = stays r (subst Is (sym (same_reference version stands.names names)) stands.is) }
     where

@@ -19,15 +19,15 @@ use Rattle.gc_commands.specs.declared.command.Command.TheVariants.{Bad, ReadByte
 use Rattle.gc_commands.specs.declared.reply.Reply.{Reply}
 use Rattle.gc_commands.specs.declared.reply.Refusal.{Refusal}
 use Rattle.gc_script.specs.State.{State, visible, over}
-use Rattle.gc_script.specs.Given.{given, given_value, named, Target, target, target_among, field_of, is_constant}
-use Rattle.gc_script.specs.Shapes.{Shape, plain, declaring, making, growing, collecting, showing, shape, reads, value_in, kept_as, write_target, throw_target, frame_value, global_value, pending_value}
+use Rattle.gc_script.specs.Given.{given, given_value, named, Target, target, target_among, target_field, is_constant}
+use Rattle.gc_script.specs.Shapes.{CommandShape, plain, declaring, making, growing, collecting, showing, shape, reads, value_in, kept_as, write_target, throw_target, frame_value, global_value, pending_value}
 use Rattle.gc_script.specs.Shapes as shapes
 use Rattle.gc_script.specs.Given.{object_target, is_struct, is_array}
 use Rattle.gc_script.specs.Built.{is_built}
 use Rattle.gc_commands.specs.declared.reply.Refusal.TheVariants as refusal
 use Rattle.gc_model.specs.Table.{declare, make_heap}
 use Rattle.gc_script.specs.Steps as steps
-use Rattle.gc_script.specs.Steps.{Step, Answers, Does, MakesNew, first_failing, tests, built_tests, bound_test, constant_test, writing_tests, value_tests}
+use Rattle.gc_script.specs.Steps.{Step, AnswersShape, Does, MakesNew, first_failing, tests, built_tests, bound_test, constant_test, writing_tests, value_tests}
 use Rattle.gc_script.specs.Run.{Run}
 use Rattle.gc_lists.specs.Kits.{IsCellType, IsNodeType}
 use Rattle.gc_lists.specs.Cells.{cell, node}
@@ -117,13 +117,13 @@ module _ (t : Table ℕ) (position : ℕ) (object : Object ℕ) (here : slice_ge
     nodes = λ p ty key value height left right of e. kept_at p (node ty key value height left right) e (λ f. node_stays t.types ty key value height left right i v of f);
   }
 
-write_keeps : (t : Table ℕ) (found : Option Target) (i : ℕ) (v : Value) → IsHere t.objects found → is_constant (field_of t found i) ≡ false → KeepsConstants t (write_target found i v t)
+write_keeps : (t : Table ℕ) (found : Option Target) (i : ℕ) (v : Value) → IsHere t.objects found → is_constant (target_field t found i) ≡ false → KeepsConstants t (write_target found i v t)
 write_keeps t None i v here free = keeps_same t t refl refl
 write_keeps t (Some found) i v here free = write_found t found.position found.object here i v free
 
 -- Plain commands
 
-abbrev KeptBy : State → Shape → Type 0
+abbrev KeptBy : State → CommandShape → Type 0
 KeptBy s (plain effect) = KeepsConstants s.table (effect s).1.table
 KeptBy s _ = Unit {0}
 
@@ -136,14 +136,14 @@ plain_keeps layouts s (I31 d n) pass = others_keep s (shapes.makes_small d n s).
 plain_keeps layouts s (Field r i into) pass = read_keeps s.table (value_in s r i)
 plain_keeps layouts s (Elem r i into) pass = read_keeps s.table (value_in s r i)
 plain_keeps layouts s (SetField r i v) pass =
-    let behind = rest_passes (writing_tests is_struct s r v) (bound_test s r i ∷ constant_test s r i ∷ value_tests s (field_of s.table (target s r) i) v) pass in
-    let free = test_passes (constant_test s r i).0 (constant_test s r i).1 (value_tests s (field_of s.table (target s r) i) v)
-    (test_passes (bound_test s r i).0 (bound_test s r i).1 (constant_test s r i ∷ value_tests s (field_of s.table (target s r) i) v) behind).1 in
-    write_keeps s.table (target s r) i (kept_as (field_of s.table (target s r) i) (given_value (given s v))) (target_here s.table.objects (named s r)) free.0
+    let behind = rest_passes (writing_tests is_struct s r v) (bound_test s r i ∷ constant_test s r i ∷ value_tests s (target_field s.table (target s r) i) v) pass in
+    let free = test_passes (constant_test s r i).0 (constant_test s r i).1 (value_tests s (target_field s.table (target s r) i) v)
+    (test_passes (bound_test s r i).0 (bound_test s r i).1 (constant_test s r i ∷ value_tests s (target_field s.table (target s r) i) v) behind).1 in
+    write_keeps s.table (target s r) i (kept_as (target_field s.table (target s r) i) (given_value (given s v))) (target_here s.table.objects (named s r)) free.0
 plain_keeps layouts s (SetElem r i v) pass =
-    let behind = rest_passes (writing_tests is_array s r v) (constant_test s r i ∷ (value_tests s (field_of s.table (target s r) i) v ++ bound_test s r i ∷ [])) pass in
-    let free = test_passes (constant_test s r i).0 (constant_test s r i).1 (value_tests s (field_of s.table (target s r) i) v ++ bound_test s r i ∷ []) behind in
-    write_keeps s.table (target s r) i (kept_as (field_of s.table (target s r) i) (given_value (given s v))) (target_here s.table.objects (named s r)) free.0
+    let behind = rest_passes (writing_tests is_array s r v) (constant_test s r i ∷ (value_tests s (target_field s.table (target s r) i) v ++ bound_test s r i ∷ [])) pass in
+    let free = test_passes (constant_test s r i).0 (constant_test s r i).1 (value_tests s (target_field s.table (target s r) i) v ++ bound_test s r i ∷ []) behind in
+    write_keeps s.table (target s r) i (kept_as (target_field s.table (target s r) i) (given_value (given s v))) (target_here s.table.objects (named s r)) free.0
 plain_keeps layouts s Leave pass = others_keep s (shapes.leaves s).1 refl refl
 plain_keeps layouts s (Push k) pass = others_keep s (shapes.opens_frame k s).1 refl refl
 plain_keeps layouts s Pop pass = others_keep s (shapes.closes_frame s).1 refl refl
@@ -188,7 +188,7 @@ module _ (layouts : Layouts) (limit : Option ℕ) (s u : State) where
   grows_keeps bytes granted t (no_heap some refused) = keeps_same s.table t refl refl
   grows_keeps bytes granted t (allocation.refused some may over) = keeps_same s.table t refl refl
 
-  declares_keeps : (d : Option Declaration) (answer : Reply) → steps.Declares d s answer u → KeepsConstants s.table u.table
+  declares_keeps : (d : Option Declaration) (answer : Reply) → steps.AnswersDeclare d s answer u → KeepsConstants s.table u.table
   declares_keeps d answer (steps.declared new spells may said after) =
       by_table (declare new s.table) (ap (λ (x : State). x.table) after) (appended_keeps s.table (declare new s.table) (new ∷ []) [] refl (sym (append-nil s.table.objects)))
   declares_keeps d answer (steps.bad may said after) = by_table s.table (ap (λ (x : State). x.table) after) (keeps_same s.table s.table refl refl)
@@ -197,7 +197,7 @@ module _ (layouts : Layouts) (limit : Option ℕ) (s u : State) where
   over_keeps : (v : State) → KeepsConstants (visible s).table v.table → u ≡ over s v → KeepsConstants s.table u.table
   over_keeps v keeps after = by_table (over s v).table (ap (λ (x : State). x.table) after) (record { types = keeps.types; cells = keeps.cells; nodes = keeps.nodes })
 
-  does_keeps : (sh : Shape) (answer : Reply) → KeptBy (visible s) sh → Does layouts limit s sh answer u → KeepsConstants s.table u.table
+  does_keeps : (sh : CommandShape) (answer : Reply) → KeptBy (visible s) sh → Does layouts limit s sh answer u → KeepsConstants s.table u.table
   does_keeps (plain effect) answer kept does = over_keeps (effect (visible s)).1 kept does.1
   does_keeps (declaring d) answer kept does = declares_keeps (d s.table.types) answer does
   does_keeps (making d class object) answer kept does = makes_keeps d class (object (visible s)) answer does
@@ -206,7 +206,7 @@ module _ (layouts : Layouts) (limit : Option ℕ) (s u : State) where
   does_keeps (collecting told) answer kept does = by_table s.table (ap (λ (x : State). x.table) does.1.1) (keeps_same s.table s.table refl refl)
   does_keeps showing answer kept does = by_table s.table (ap (λ (x : State). x.table) does.1) (keeps_same s.table s.table refl refl)
 
-  answers_keep : (sh : Shape) (found : Option Refusal) (answer : Reply) → (found ≡ None → KeptBy (visible s) sh) → Answers layouts limit s sh found answer u → KeepsConstants s.table u.table
+  answers_keep : (sh : CommandShape) (found : Option Refusal) (answer : Reply) → (found ≡ None → KeptBy (visible s) sh) → AnswersShape layouts limit s sh found answer u → KeepsConstants s.table u.table
   answers_keep sh None answer kept answers = does_keeps sh answer (kept refl) answers
   answers_keep sh (Some why) answer kept answers = by_table s.table (ap (λ (x : State). x.table) answers.1) (keeps_same s.table s.table refl refl)
 

@@ -29,8 +29,8 @@ use Rattle.gc_policy.specs.Policy.{PolicyState, policy_state}
 use Rattle.gc_values.specs.declared.root.GcRootIndex.{GcRootIndex}
 use Rattle.gc_values.specs.declared.root.RawValue.{RawValue}
 use Rattle.gc_values.specs.declared.root.RawValue.TheVariants as raw
-use Rattle.gc_store.specs.Requests.{CanPlaceFields, fields_of}
-use Rattle.gc_store.specs.Places.{Places, PlacesObject, MayGetPages, bytes_of, lacks_ids}
+use Rattle.gc_store.specs.Requests.{CanPlaceFields, struct_fields_of}
+use Rattle.gc_store.specs.Places.{Places, PlacesObject, MayGetPages, size_in_table, lacks_ids}
 use Rattle.gc_values.specs.declared.faults.GcHeapOutOfMemory.{GcHeapOutOfMemory}
 use Rattle.gc_values.specs.declared.faults.PlaceFault.TheVariants as place_fault
 use Rattle.gc_lists.specs.declared.list.HeapList.{HeapList}
@@ -81,7 +81,7 @@ module _ {D : Type 0} (s : StoreView D) (t : Table D) (version : Option GcRootIn
       subst (λ (p : RawValue). RawStands s t p v) second (subst (RawStands s t (raw.Ref Any version)) value (version_stands s t version r names))
   each_stands (suc (suc i)) q v is is' = absurd (none-some q is)
 
-  pub object_asked : IsCellType t.types ty → (vs : List Value) × (AllStand s t (cell_values y version) vs × (cell {D = D} ty (number_bits w64 x) r ≡ struct ty (stored_in (fields_of t.types ty) vs)))
+  pub object_asked : IsCellType t.types ty → (vs : List Value) × (AllStand s t (cell_values y version) vs × (cell {D = D} ty (number_bits w64 x) r ≡ struct ty (stored_in (struct_fields_of t.types ty) vs)))
   object_asked of = (
     asked_values,
     (record { same_count = refl; each = each_stands }, ap (λ (o : Option (List FieldType)). struct ty (stored_in (unwrap_or o []) asked_values)) (sym (fields_are t.types ty of))),
@@ -151,7 +151,7 @@ module _ {D : Type 0} (layouts : Layouts) (s : StoreView D) (t : Table D) (holds
   small_cell Counting e = absurd (cc e)
   small_cell Copying e = absurd (cc e)
 
-  pub never_large : IsCellType t.types ty → too_large layouts (bytes_of layouts (cell {D = D} ty bits r) t) ≡ true → ⊥
+  pub never_large : IsCellType t.types ty → too_large layouts (size_in_table layouts (cell {D = D} ty bits r) t) ≡ true → ⊥
   never_large of e = small_cell layouts (sym (ap (λ (fs : Option (List FieldType)). too_large layouts (fields_size layouts fs)) (fields_are t.types ty of)) ∙ e)
 
 -- What is left of a table in which nothing was made.

@@ -14,7 +14,7 @@ use Rattle.gc_owner.specs.Retry.{Retry}
 use Rattle.gc_owner.specs.Retry as retry
 use Rattle.gc_policy.specs.Policy.{GrowsTable, MakesTable, PolicyState, Prepares, count_try, table_rules}
 use Rattle.gc_policy.specs.Policy as policy
-use Rattle.gc_store.specs.Places.{LacksPlace, bytes_of}
+use Rattle.gc_store.specs.Places.{LacksPlace, size_in_table}
 use Rattle.gc_lists.specs.Refusals.{CountsOn, RefusedInCall}
 use Rattle.gc_lists.proofs.Limiting.{collects_tell, counts_same, counts_twice, dues_tell, makes_tell, readies_tell, tells_same}
 
@@ -68,7 +68,7 @@ module _ {D : Type 0} (layouts : Layouts) where
   pub lacks_refused : (counter : Option ℕ) (o : Object D) (p : PolicyState D) (limits' : Limits) (need : ℕ) (new : StoreView D) (lacks : LacksPlace layouts counter o p limits' need new)
       → RefusedInCall need p.limits limits' lacks.after.table
   lacks_refused counter o p limits' n new lacks =
-      let bytes = bytes_of layouts o p.table in
+      let bytes = size_in_table layouts o p.table in
       subst (λ (k : ℕ). RefusedInCall k p.limits limits' lacks.after.table) (sym lacks.asked)
       (refused_within (need_of layouts bytes) p.limits p.limits lacks.after.limits limits' lacks.after.table lacks.after.table (counts_same p.limits) (tells_same lacks.after.limits limits' lacks.limits).counts refl
       (prepares_refused bytes counter p lacks.prepares refl))

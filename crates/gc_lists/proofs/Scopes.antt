@@ -19,7 +19,7 @@ use Rattle.gc_model.proofs.Lists.{slice_get-push_new}
 use Rattle.gc_policy.specs.Accounts.{Account, HoldsAccount}
 use Rattle.gc_values.specs.declared.root.GcRootIndex.{GcRootIndex}
 use Rattle.gc_store.specs.Roots.{handle_of, NamesReference}
-use Rattle.gc_lists.specs.Frames.{ChangesRoots, Leaves}
+use Rattle.gc_lists.specs.Frames.{ChangesOwned, Leaves}
 use Rattle.gc_lists.specs.Refusals.{LacksScoped}
 
 -- a root at the end is found by its number, where no other has it
@@ -76,24 +76,24 @@ left_scoped scope stood more is = ap (λ n. take n (stood ++ more)) is ∙ take-
 
 module _ {D : Type 0} (t : Table D) (scope : ℕ) (is : scope ≡ length t.scoped) (r : Reference) where
   -- a root was pushed, an owned root made for it, and the scope left
-  pub rooted_left : ChangesRoots t (own r t).owned (leave scope (own r (push r t)))
+  pub rooted_left : ChangesOwned t (own r t).owned (leave scope (own r (push r t)))
   rooted_left = record {
     pushes = record { index = length t.scoped; generation = t.drops } ∷ [];
     rest = λ i. record (leave scope (own r (push r t))) { scoped = left_scoped scope t.scoped (record { serial = length t.pushes; reference = r } ∷ []) is i };
   }
 
   -- a root was pushed, and the scope left
-  pub pushed_left : ChangesRoots t t.owned (leave scope (push r t))
+  pub pushed_left : ChangesOwned t t.owned (leave scope (push r t))
   pushed_left = record {
     pushes = record { index = length t.scoped; generation = t.drops } ∷ [];
     rest = λ i. record (leave scope (push r t)) { scoped = left_scoped scope t.scoped (record { serial = length t.pushes; reference = r } ∷ []) is i };
   }
 
 -- nothing has changed
-pub nothing_changed : {D : Type 0} (t : Table D) → ChangesRoots t t.owned t
+pub nothing_changed : {D : Type 0} (t : Table D) → ChangesOwned t t.owned t
 nothing_changed t = record { pushes = []; rest = λ i. record t { pushes = sym (append-nil t.pushes) i } }
 
-pub leaves_as_it_was : {D : Type 0} (layouts : Layouts) (t : Table D) (a : Account) (new : StoreView D) → HoldsAccount layouts new t a → Leaves layouts (ChangesRoots t t.owned) new
+pub leaves_as_it_was : {D : Type 0} (layouts : Layouts) (t : Table D) (a : Account) (new : StoreView D) → HoldsAccount layouts new t a → Leaves layouts (ChangesOwned t t.owned) new
 leaves_as_it_was layouts t a new holds = record { after = t; account = a; holds = holds; changed = nothing_changed t }
 
 -- where no scoped root may be pushed, there is no room for any number of them but none

@@ -8,7 +8,7 @@ use Rattle.std.proofs.lemmas.Option.{same_Some}
 use Rattle.gc_types.specs.declared.kind.Layouts.{Layouts}
 use Rattle.gc_model.specs.Values.{Reference}
 use Rattle.gc_model.specs.Table.{Table, Owned}
-use Rattle.gc_model.specs.OwnedRoots.{drop_handle, handles_changed, owned_among, with_handles}
+use Rattle.gc_model.specs.OwnedRoots.{drop_handle, handles_changed, owned_among, handled_roots}
 use Rattle.gc_model.specs.Stores.{StoreView}
 use Rattle.gc_model.proofs.OwnedRoots.{owned_one}
 use Rattle.gc_policy.specs.Accounts.{Account, HoldsAccount}
@@ -22,22 +22,22 @@ use Rattle.gc_lists.proofs.Keeping.{owned_same}
 
 -- an owned root is found still by its number where another one has a handle less
 other_among : (n k : ℕ) (roots : List Owned) (r : Reference) → k ≢ n → ((root : Owned) → Contains roots root → 0 < root.handles) → owned_among k roots ≡ Some r
-    → owned_among k (with_handles (handles_changed n (λ m. m - 1) roots)) ≡ Some r
+    → owned_among k (handled_roots (handles_changed n (λ m. m - 1) roots)) ≡ Some r
 other_among n k [] r differ some e = absurd (cc e)
 other_among n k (x ∷ xs) r differ some e =
-    elim (x.number == k) as (λ b. (x.number == k) ≡ b → owned_among k (with_handles (handles_changed n (λ m. m - 1) (x ∷ xs))) ≡ Some r) [
+    elim (x.number == k) as (λ b. (x.number == k) ≡ b → owned_among k (handled_roots (handles_changed n (λ m. m - 1) (x ∷ xs))) ≡ Some r) [
       | true ↦ λ is.
           let same : x.number ≡ k = grind (arith, nat_tests, is) in
           let has = some x (Contains-append_left (x ∷ []) xs x (0, omega arith, refl)) in
-          ap (λ b. owned_among k (with_handles (cond b (record x { handles = x.handles - 1 }) x ∷ handles_changed n (λ m. m - 1) xs))) (ne_eqb x.number n (λ e'. differ (sym same ∙ e')))
-          ∙ ap (λ b. owned_among k (cond (not b) (x ∷ with_handles (handles_changed n (λ m. m - 1) xs)) (with_handles (handles_changed n (λ m. m - 1) xs)))) (ne_eqb x.handles 0 (λ none. absurd (omega (arith, none, has))))
-          ∙ ap (λ b. cond b (Some x.reference) (owned_among k (with_handles (handles_changed n (λ m. m - 1) xs)))) is
+          ap (λ b. owned_among k (handled_roots (cond b (record x { handles = x.handles - 1 }) x ∷ handles_changed n (λ m. m - 1) xs))) (ne_eqb x.number n (λ e'. differ (sym same ∙ e')))
+          ∙ ap (λ b. owned_among k (cond (not b) (x ∷ handled_roots (handles_changed n (λ m. m - 1) xs)) (handled_roots (handles_changed n (λ m. m - 1) xs)))) (ne_eqb x.handles 0 (λ none. absurd (omega (arith, none, has))))
+          ∙ ap (λ b. cond b (Some x.reference) (owned_among k (handled_roots (handles_changed n (λ m. m - 1) xs)))) is
           ∙ sym (ap (λ b. cond b (Some x.reference) (owned_among k xs)) is) ∙ e
       | false ↦ λ is.
           let later = other_among n k xs r differ (λ root c. some root (Contains-append_right (x ∷ []) xs root c)) (sym (ap (λ b. cond b (Some x.reference) (owned_among k xs)) is) ∙ e) in
-          elim (x.number == n) as (λ b. owned_among k (with_handles (cond b (record x { handles = x.handles - 1 }) x ∷ handles_changed n (λ m. m - 1) xs)) ≡ Some r) [
-            | true ↦ passed_over k (record x { handles = x.handles - 1 }) (with_handles (handles_changed n (λ m. m - 1) xs)) r is later
-            | false ↦ passed_over k x (with_handles (handles_changed n (λ m. m - 1) xs)) r is later
+          elim (x.number == n) as (λ b. owned_among k (handled_roots (cond b (record x { handles = x.handles - 1 }) x ∷ handles_changed n (λ m. m - 1) xs)) ≡ Some r) [
+            | true ↦ passed_over k (record x { handles = x.handles - 1 }) (handled_roots (handles_changed n (λ m. m - 1) xs)) r is later
+            | false ↦ passed_over k x (handled_roots (handles_changed n (λ m. m - 1) xs)) r is later
           ]
     ] refl
   where

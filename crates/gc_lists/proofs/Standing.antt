@@ -9,12 +9,12 @@ use Rattle.gc_values.specs.declared.root.GcRootIndex.{GcRootIndex}
 use Rattle.gc_store.specs.Stores.{IsSameStore}
 use Rattle.gc_lists.specs.declared.kit.Kit.{Kit}
 use Rattle.gc_lists.specs.Constants.{KeepsConstants}
-use Rattle.gc_lists.specs.Frames.{ChangesObjects, ChangesRoots}
+use Rattle.gc_lists.specs.Frames.{ChangesObjects, ChangesOwned}
 use Rattle.gc_lists.specs.Versions.{StandsForListOf, VersionNames}
 use Rattle.gc_lists.proofs.Keeping.{owned_same}
 use Rattle.gc_lists.proofs.Kept.{appended_keeps, list_of_kept}
 
-pub roots_keep : {D : Type 0} (t u : Table D) (owned : List Owned) → ChangesRoots t owned u → KeepsConstants t u
+pub roots_keep : {D : Type 0} (t u : Table D) (owned : List Owned) → ChangesOwned t owned u → KeepsConstants t u
 roots_keep t u owned changes = appended_keeps t u [] [] (ap (λ (v : Table _). v.types) changes.rest ∙ sym (append-nil t.types)) (ap (λ (v : Table _). v.objects) changes.rest ∙ sym (append-nil t.objects))
 
 pub objects_keep : {D : Type 0} {limit : Option ℕ} (kit : Kit) (most : ℕ) (t u : Table D) (owned : List Owned) → ChangesObjects limit kit most t owned u → KeepsConstants t u

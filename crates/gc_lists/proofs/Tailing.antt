@@ -27,7 +27,7 @@ use Rattle.gc_lists.specs.declared.fault.ListFault.TheVariants as fault
 use Rattle.gc_lists.specs.Answers.{AnswersVersion, AreNumbers, KeepsRoot, Tails}
 use Rattle.gc_lists.specs.Cells.{cell, IsNullOr}
 use Rattle.gc_lists.specs.Faults.{refused}
-use Rattle.gc_lists.specs.Frames.{ChangesRoots, most_objects}
+use Rattle.gc_lists.specs.Frames.{ChangesOwned, most_objects}
 use Rattle.gc_lists.specs.Kits.{link, IsCellType}
 use Rattle.gc_lists.specs.Lists.{IsList, IsListOf}
 use Rattle.gc_lists.specs.Versions.{VersionNames, StandsForListOf}
@@ -93,7 +93,7 @@ no_small s t handle xs names n e = list_reference t names.next names.rest names.
 module _ {D : Type 0} (layouts : Layouts) (s mid new : StoreView D) (t : Table D) (a : Account) (ty : ℕ) (ys : List ℤ) (scope : ℕ) (scope_is : scope ≡ length t.scoped) (holds : HoldsTable layouts s t) where
   -- the next cell was read, and an owned root made for it
   module _ (next : Reference) (rest : IsListOf t.types t.objects ty ys next) where
-    pub tail_kept : (made : GcRootIndex) → KeepsRoot layouts (push next t) a next (leave scope) (Ok made) new → AnswersVersion layouts t (ChangesRoots t) (AreNumbers ty ys) (Some made) new
+    pub tail_kept : (made : GcRootIndex) → KeepsRoot layouts (push next t) a next (leave scope) (Ok made) new → AnswersVersion layouts t (ChangesOwned t) (AreNumbers ty ys) (Some made) new
     tail_kept made keeps = record {
       after = leave scope (own next (push next t));
       account = a;
@@ -111,15 +111,15 @@ module _ {D : Type 0} (layouts : Layouts) (s mid new : StoreView D) (t : Table D
     tail_refused fault.Memory keeps = record { after = leave scope (push next t); account = a; holds = keeps; changed = pushed_left t scope scope_is next }
 
   -- the list ends behind the cell
-  tail_empty : IsListOf t.types t.objects ty ys null → HoldsAccount layouts new t a → AnswersVersion layouts t (ChangesRoots t) (AreNumbers ty ys) None new
+  tail_empty : IsListOf t.types t.objects ty ys null → HoldsAccount layouts new t a → AnswersVersion layouts t (ChangesOwned t) (AreNumbers ty ys) None new
   tail_empty rest h = record { after = t; account = a; holds = h; stands = record { reference = null; names = refl; is = rest }; has_new_root = tt; changed = nothing_changed t }
 
   -- the list is empty, and so is its rest
   pub empty_tail : (version answered : Option GcRootIndex) (xs : List ℤ) → version ≡ None → answered ≡ None → StandsForListOf s t version ty xs → HoldsAccount layouts new t a
-      → AnswersVersion layouts t (ChangesRoots t) (AreNumbers ty (drop 1 xs)) answered new
+      → AnswersVersion layouts t (ChangesOwned t) (AreNumbers ty (drop 1 xs)) answered new
   empty_tail version answered xs none none' stands h =
       let is_empty = empty_list s t version xs none (record { reference = stands.reference; names = stands.names; is = stands.is.0 }) in
-      subst (λ (v : Option GcRootIndex). AnswersVersion layouts t (ChangesRoots t) (AreNumbers ty (drop 1 xs)) v new) (sym none')
+      subst (λ (v : Option GcRootIndex). AnswersVersion layouts t (ChangesOwned t) (AreNumbers ty (drop 1 xs)) v new) (sym none')
       (record { after = t; account = a; holds = h; stands = record { reference = null; names = refl; is = subst (λ (zs : List ℤ). IsListOf t.types t.objects ty (drop 1 zs) null) (sym is_empty) (refl, tt) }; has_new_root = tt; changed = nothing_changed t })
 
   -- by what the next reference is read as
@@ -133,7 +133,7 @@ module _ {D : Type 0} (layouts : Layouts) (s mid new : StoreView D) (t : Table D
       (reads.1.1, next_scoped layouts s t holds mid (push (at p) t) (at p) handle refl refl same)
 
   pub read_none : (next : Reference) (value : RawValue) → ((n : ℕ) → next ≡ small n → ⊥) → ReadsValue layouts t a (reference Any next) (Ok value) new → raw_handle value ≡ None
-      → IsListOf t.types t.objects ty ys next → AnswersVersion layouts t (ChangesRoots t) (AreNumbers ty ys) None new
+      → IsListOf t.types t.objects ty ys next → AnswersVersion layouts t (ChangesOwned t) (AreNumbers ty ys) None new
   read_none null value never reads is rest = tail_empty rest reads.1.1
   read_none (small n) value never reads is rest = absurd (never n refl)
   read_none (at p) value never reads is rest = absurd (let e : None ≡ Some (handle_of new (length t.scoped) t.drops) = sym is ∙ ap raw_handle reads.1.0 in cc e)

@@ -27,9 +27,9 @@ use Rattle.gc_lists.specs.declared.fault.ListFault.{ListFault}
 use Rattle.gc_lists.specs.declared.fault.ListFault.TheVariants as fault
 use Rattle.gc_lists.specs.Answers.{Copied, FailsToCopy}
 use Rattle.gc_lists.specs.Faults.{refused}
-use Rattle.gc_lists.specs.Frames.{ChangesRoots, Leaves, most_objects}
+use Rattle.gc_lists.specs.Frames.{ChangesOwned, Leaves, most_objects}
 use Rattle.gc_lists.specs.Lists.{IsList}
-use Rattle.gc_lists.specs.Progress.{NamesCell, IsCellIn, Steps, StepsTo, Pushed, HoldsPushed, WalkedAll, StopsWalk}
+use Rattle.gc_lists.specs.Progress.{NamesCell, IsCellIn, Steps, ReadsCell, Pushed, HoldsPushed, WalkedAll, StopsWalk}
 use Rattle.gc_lists.specs.Refusals.{LacksScoped}
 use Rattle.gc_lists.specs.Versions.{IsListIn, StandsForList, VersionNames}
 use Rattle.gc_lists.proofs.CellReads.{first_cell}
@@ -73,7 +73,7 @@ cell_moved s new t h xs same names = record {
 -- what the next reference is read as
 module _ {D : Type 0} (layouts : Layouts) (s : StoreView D) (t : Table D) (a : Account) (holds : HoldsTable layouts s t) (x n : ℤ) (same : n ≡ x) (fits : FitsSigned w64 n) (new : StoreView D) where
   pub steps_on : (next : Reference) (rest : List ℤ) (value : RawValue) (handle : Option GcRootIndex) → IsList t.types t.objects next rest → ReadsValue layouts t a (reference Any next) (Ok value) new → handle ≡ raw_handle value
-      → StepsTo layouts t a x next n handle new
+      → ReadsCell layouts t a x next n handle new
   steps_on null rest value handle is reads handle_is = record { number_is = same; fits = fits; holds = reads.1.1; names = subst (λ (h : Option GcRootIndex). HandleStands new t h null) (sym (handle_is ∙ ap raw_handle reads.1.0)) refl }
   steps_on (small k) [] value handle is reads handle_is = absurd (cc is)
   steps_on (small k) (y ∷ ys) value handle is reads handle_is = absurd (cc is.1.0.named)
@@ -168,7 +168,7 @@ length-more read n = length-append read (n ∷ [])
 module _ {D : Type 0} (layouts : Layouts) (s : StoreView D) (first : Option GcRootIndex) (read : List ℤ) (cell : GcRootIndex) (now : StoreView D) (here : Option GcRootIndex) (some : here ≡ Some cell)
     (going : Going layouts s first read here now) where
   -- the walk goes on by a step
-  module _ (n : ℤ) (handle : Option GcRootIndex) (new : StoreView D) (steps : (u : Table D) (a : Account) (ys : List ℤ) → HoldsAccount layouts now u a → (names : NamesCell now u cell ys) → StepsTo layouts u a names.number names.next n handle new) where
+  module _ (n : ℤ) (handle : Option GcRootIndex) (new : StoreView D) (steps : (u : Table D) (a : Account) (ys : List ℤ) → HoldsAccount layouts now u a → (names : NamesCell now u cell ys) → ReadsCell layouts u a names.number names.next n handle new) where
     -- the number fits, by any of the tables
     pub number_fits : IsListIn D layouts s first → FitsSigned w64 n
     number_fits one =
@@ -255,7 +255,7 @@ module _ {D : Type 0} (layouts : Layouts) (s : StoreView D) (first : Option GcRo
 -- The scope is left.
 module _ {D : Type 0} (layouts : Layouts) (t : Table D) (a : Account) (xs : List ℤ) (mid new : StoreView D) (scope : ℕ) (scope_is : scope ≡ length t.scoped)
     (leaves : (u : Table D) → HoldsAccount layouts mid u a → HoldsAccount layouts new (leave scope u) a) where
-  walk_left : HoldsPushed layouts t a (length xs) mid → Leaves layouts (ChangesRoots t t.owned) new
+  walk_left : HoldsPushed layouts t a (length xs) mid → Leaves layouts (ChangesOwned t t.owned) new
   walk_left there =
       let w = with_pushed t there.pushed.scoped there.pushed.pushes in
       record {

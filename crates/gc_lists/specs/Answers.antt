@@ -18,10 +18,10 @@ use Rattle.gc_lists.specs.declared.fault.ListFault.TheVariants as fault
 use Rattle.gc_lists.specs.declared.kit.Kit.{Kit}
 use Rattle.gc_lists.specs.declared.list.HeapList.{HeapList}
 use Rattle.gc_lists.specs.Cells.{cell}
-use Rattle.gc_lists.specs.Frames.{ChangesRoots, ChangesObjects, Leaves, most_objects}
+use Rattle.gc_lists.specs.Frames.{ChangesOwned, ChangesObjects, Leaves, most_objects}
 use Rattle.gc_lists.specs.Lists.{IsListOf}
 use Rattle.gc_lists.specs.Refusals.{LacksScoped, LacksOwned, RefusedInCall}
-use Rattle.gc_lists.specs.Versions.{Stands, VersionNames}
+use Rattle.gc_lists.specs.Versions.{VersionStands, VersionNames}
 
 -- the owned roots that stand where a version was answered: one more where it isn't empty
 abbrev pub owned_with : {D : Type 0} → Table D → Option GcRootIndex → Reference → List Owned
@@ -39,7 +39,7 @@ pub record AnswersVersion {D : Type 0} (layouts : Layouts) (t : Table D) (Change
   pub after : Table D
   pub account : Account
   pub holds : HoldsAccount layouts new after account
-  pub stands : Stands new after version (Is after)
+  pub stands : VersionStands new after version (Is after)
   pub has_new_root : HasNewRoot new t version
   pub changed : Changed (owned_with t version stands.reference) after
 
@@ -70,21 +70,21 @@ Conses layouts kit old version xs x p limits' (Err fault.Memory) new = Leaves la
 
 -- What the rest of a list answers and leaves.
 abbrev pub Tails : {D : Type 0} → Layouts → ℕ → List ℤ → Table D → Result HeapList ListFault → StoreView D → Type 0
-Tails layouts ty xs t (Ok list) new = AnswersVersion layouts t (ChangesRoots t) (AreNumbers ty (drop 1 xs)) list.root new
+Tails layouts ty xs t (Ok list) new = AnswersVersion layouts t (ChangesOwned t) (AreNumbers ty (drop 1 xs)) list.root new
 Tails layouts ty xs t (Err fault.WrongStore) new = ⊥
-Tails layouts ty xs t (Err fault.RootsFull) new = LacksOwned t × Leaves layouts (ChangesRoots t t.owned) new
+Tails layouts ty xs t (Err fault.RootsFull) new = LacksOwned t × Leaves layouts (ChangesOwned t t.owned) new
 Tails layouts ty xs t (Err (fault.HeapOutOfMemory f)) new = ⊥
-Tails layouts ty xs t (Err fault.Memory) new = Leaves layouts (ChangesRoots t t.owned) new
+Tails layouts ty xs t (Err fault.Memory) new = Leaves layouts (ChangesOwned t t.owned) new
 
 -- what a copy of a list's numbers leaves where it is answered, and where it isn't
 abbrev pub Copied : {D : Type 0} → Layouts → List ℤ → Table D → List ℤ → StoreView D → Type 0
-Copied layouts xs t numbers new = (numbers ≡ xs) × Leaves layouts (ChangesRoots t t.owned) new
+Copied layouts xs t numbers new = (numbers ≡ xs) × Leaves layouts (ChangesOwned t t.owned) new
 
 abbrev pub FailsToCopy : {D : Type 0} → Layouts → List ℤ → Table D → ListFault → StoreView D → Type 0
 FailsToCopy layouts xs t fault.WrongStore new = ⊥
-FailsToCopy layouts xs t fault.RootsFull new = LacksScoped t (length xs + most_objects) × Leaves layouts (ChangesRoots t t.owned) new
+FailsToCopy layouts xs t fault.RootsFull new = LacksScoped t (length xs + most_objects) × Leaves layouts (ChangesOwned t t.owned) new
 FailsToCopy layouts xs t (fault.HeapOutOfMemory f) new = ⊥
-FailsToCopy layouts xs t fault.Memory new = Leaves layouts (ChangesRoots t t.owned) new
+FailsToCopy layouts xs t fault.Memory new = Leaves layouts (ChangesOwned t t.owned) new
 
 -- what giving up a version of this store leaves: its owned root has a handle less, where it has any
 abbrev pub Releases : {D : Type 0} → Layouts → StoreView D → Table D → Account → Option GcRootIndex → StoreView D → Type 0

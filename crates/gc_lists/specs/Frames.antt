@@ -14,7 +14,7 @@ abbrev pub most_objects : ℕ
 most_objects = 1024
 
 -- Roots were pushed and are gone, owned roots may have been made, and these stand now.
-pub record ChangesRoots {D : Type 0} (t : Table D) (owned : List Owned) (after : Table D) : Type 0 where
+pub record ChangesOwned {D : Type 0} (t : Table D) (owned : List Owned) (after : Table D) : Type 0 where
   pub pushes : List Push
   pub rest : after ≡ record t { pushes = t.pushes ++ pushes; drops = after.drops; owns = after.owns; owned = owned }
 

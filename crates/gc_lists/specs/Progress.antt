@@ -37,7 +37,7 @@ pub record IsCellIn (D : Type 0) (layouts : Layouts) (s : StoreView D) (handle :
   pub names : NamesCell s table handle numbers
 
 -- a cell's number was read, and the handle is that of the next one, or none behind the last
-pub record StepsTo {D : Type 0} (layouts : Layouts) (t : Table D) (a : Account) (x : ℤ) (next : Reference) (number : ℤ) (handle : Option GcRootIndex) (new : StoreView D) : Type 0 where
+pub record ReadsCell {D : Type 0} (layouts : Layouts) (t : Table D) (a : Account) (x : ℤ) (next : Reference) (number : ℤ) (handle : Option GcRootIndex) (new : StoreView D) : Type 0 where
   pub number_is : number ≡ x
   pub fits : FitsSigned w64 number
   pub holds : HoldsAccount layouts new (after_read (reference Any next) t) a
@@ -45,7 +45,7 @@ pub record StepsTo {D : Type 0} (layouts : Layouts) (t : Table D) (a : Account) 
 
 -- What a step along a list answers and leaves.
 abbrev pub Steps : {D : Type 0} → Layouts → Table D → Account → ℤ → Reference → Result (ℤ × Option GcRootIndex) ListFault → StoreView D → Type 0
-Steps layouts t a x next (Ok found) new = StepsTo layouts t a x next found.0 found.1 new
+Steps layouts t a x next (Ok found) new = ReadsCell layouts t a x next found.0 found.1 new
 Steps layouts t a x next (Err fault.WrongStore) new = ⊥
 Steps layouts t a x next (Err fault.RootsFull) new = (roots_full t ≡ true) × HoldsAccount layouts new t a
 Steps layouts t a x next (Err (fault.HeapOutOfMemory f)) new = ⊥

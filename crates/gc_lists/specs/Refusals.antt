@@ -11,11 +11,11 @@ abbrev pub LacksScoped : {D : Type 0} → Table D → ℕ → Type 0
 LacksScoped t count = (t.max_scoped < length t.scoped + count) ⊎ (t.drops ≡ 2 ^ 64 - 1)
 
 -- why a call that reads or makes objects may be refused a root, and one that also answers a version
-abbrev pub LacksRoots : {D : Type 0} → Table D → Type 0
-LacksRoots t = LacksScoped t most_objects
+abbrev pub LacksCallRoots : {D : Type 0} → Table D → Type 0
+LacksCallRoots t = LacksScoped t most_objects
 
 abbrev pub LacksOwned : {D : Type 0} → Table D → Type 0
-LacksOwned t = (owned_full t ≡ true) ⊎ LacksRoots t
+LacksOwned t = (owned_full t ≡ true) ⊎ LacksCallRoots t
 
 -- a limiter, asked or not, has lost none of the refusals that it counted, in 64 bits
 abbrev pub CountsOn : Limits → Limits → Type 0

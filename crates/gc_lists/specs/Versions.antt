@@ -20,17 +20,17 @@ VersionNames s t None r = r ≡ null
 VersionNames s t (Some handle) r = NamesOwned s t handle r
 
 -- the version stands for what its reference is
-pub record Stands {D : Type 0} (s : StoreView D) (t : Table D) (version : Option GcRootIndex) (Is : Reference → Type 0) : Type 0 where
+pub record VersionStands {D : Type 0} (s : StoreView D) (t : Table D) (version : Option GcRootIndex) (Is : Reference → Type 0) : Type 0 where
   pub reference : Reference
   pub names : VersionNames s t version reference
   pub is : Is reference
 
 -- it stands for that list, and for one whose cells are of that type
 abbrev pub StandsForList : {D : Type 0} → StoreView D → Table D → Option GcRootIndex → List ℤ → Type 0
-StandsForList s t version xs = Stands s t version (λ r. IsList t.types t.objects r xs)
+StandsForList s t version xs = VersionStands s t version (λ r. IsList t.types t.objects r xs)
 
 abbrev pub StandsForListOf : {D : Type 0} → StoreView D → Table D → Option GcRootIndex → ℕ → List ℤ → Type 0
-StandsForListOf s t version ty xs = Stands s t version (IsListOf t.types t.objects ty xs)
+StandsForListOf s t version ty xs = VersionStands s t version (IsListOf t.types t.objects ty xs)
 
 -- a version of this store stands for some list, in some table that the store holds
 pub record IsListIn (D : Type 0) (layouts : Layouts) (s : StoreView D) (version : Option GcRootIndex) : Type 0 where

@@ -11,7 +11,7 @@ ghost use Rattle.gc_store.specs.Stores.{IsSameStore};
 ghost use Rattle.gc_values.specs.declared.root.GcRootIndex.{GcRootIndex};
 ghost use Rattle.gc_lists.specs.Answers.{AreApart, HasNewRoot, LeavesVersion, Releases};
 ghost use Rattle.gc_lists.specs.Constants.{KeepsConstants};
-ghost use Rattle.gc_lists.specs.Frames.{ChangesObjects, ChangesRoots, KeepsLimit};
+ghost use Rattle.gc_lists.specs.Frames.{ChangesObjects, ChangesOwned, KeepsLimit};
 ghost use Rattle.gc_lists.specs.Lists.{IsList, IsListOf};
 ghost use Rattle.gc_lists.specs.Versions.{StandsForListOf, VersionNames};
 ghost use Rattle.gc_lists.specs.declared.kit.Kit.{Kit};
@@ -25,7 +25,7 @@ pub fn lists_stay<D: Drop>()
 
 /// What calls on lists and maps change leaves all that is constant.
 pub fn calls_keep_constants<D: Drop>()
-    ensures roots { (t u : Table D) (owned : List Owned) → ChangesRoots t owned u → KeepsConstants t u }
+    ensures roots { (t u : Table D) (owned : List Owned) → ChangesOwned t owned u → KeepsConstants t u }
     ensures objects { (limit : Option ℕ) (kit : Kit) (most : ℕ) (t u : Table D) (owned : List Owned) → ChangesObjects limit kit most t owned u
         → KeepsConstants t u }
 {}

@@ -14,24 +14,24 @@ use Rattle.gc_view.proofs.Layouts.{round_up-le}
 use Rattle.gc_model.specs.Allocation.{skipped}
 use Rattle.gc_model.specs.Gaps.{told}
 use Rattle.gc_model.specs.Reach.{Reached, root_references}
-use Rattle.gc_model.specs.Sizes.{block_of, object_size}
+use Rattle.gc_model.specs.Sizes.{block_bytes, object_size}
 use Rattle.gc_model.specs.Values.{Reference, Object}
 use Rattle.gc_model.specs.Words.{Placing, placed_at}
 use Rattle.gc_policy.specs.Policy.{IsPlaceIn, PolicyState}
 use Rattle.gc_image.specs.declared.image.ObjectLine.{ObjectLine}
-use Rattle.gc_load_image.specs.Stages.{IsDense, early_objects, start_of}
+use Rattle.gc_load_image.specs.Stages.{IsDense, early_objects, dense_start}
 use Rattle.gc_load_image.proofs.DenseLemmas.{Lies}
 use Rattle.gc_load_image.proofs.RoomLemmas.{Laid, place_is}
 
-start_same : (types : List Declaration) (objects : List (Object ℕ)) (o : Object ℕ) (p : ℕ) → p ≤ length objects → start_of types (objects ++ o ∷ []) p ≡ start_of types objects p
-start_same types objects o p below = ap (λ (xs : List (Object ℕ)). skipped + sum_by (λ (x : Object ℕ). block_of Counting types (Some x)) xs) (take-append-le p objects (o ∷ []) below)
+start_same : (types : List Declaration) (objects : List (Object ℕ)) (o : Object ℕ) (p : ℕ) → p ≤ length objects → dense_start types (objects ++ o ∷ []) p ≡ dense_start types objects p
+start_same types objects o p below = ap (λ (xs : List (Object ℕ)). skipped + sum_by (λ (x : Object ℕ). block_bytes Counting types (Some x)) xs) (take-append-le p objects (o ∷ []) below)
 
-counted_more : (types : List Declaration) (objects : List (Object ℕ)) (o : Object ℕ) (places : Placing) (word : ℕ) → word ≡ start_of types objects (length objects) → IsDense Counting types objects places → IsDense Counting types (objects ++ o ∷ []) (placed_at places (length objects) word)
+counted_more : (types : List Declaration) (objects : List (Object ℕ)) (o : Object ℕ) (places : Placing) (word : ℕ) → word ≡ dense_start types objects (length objects) → IsDense Counting types objects places → IsDense Counting types (objects ++ o ∷ []) (placed_at places (length objects) word)
 counted_more types objects o places word is dense = λ p w. elim (cases_eq p (length objects)) [
   | inl same ↦
       let test : nat_eq p (length objects) ≡ true = eq-eqb p (length objects) same in
       let found : placed_at places (length objects) word p ≡ Some word = ap (λ (b : Bool). cond b (Some word) (places p)) test in
-      let start : start_of types (objects ++ o ∷ []) p ≡ word = start_same types objects o p (omega (arith, same)) ∙ ap (start_of types objects) same ∙ sym is in (
+      let start : dense_start types (objects ++ o ∷ []) p ≡ word = start_same types objects o p (omega (arith, same)) ∙ ap (dense_start types objects) same ∙ sym is in (
         λ e. ((let more = length_push objects o in omega (arith, more, same)), sym (same_Some word w (sym found ∙ e)) ∙ sym start),
         λ at. found ∙ ap Some (sym start ∙ sym at.1),
       )
@@ -63,7 +63,7 @@ module _ (types : List Declaration) (objects : List (Object ℕ)) (roots : List 
   dense_made Counting o after word size wide lies place =
       let up = round_up-le size alignment (omega arith) in
       let at = place_is after.table after.account.places lines (laid_after after lies) word (round_up size alignment) (omega (arith, wide, up)) place.0 place.1 in
-      let is : word ≡ start_of types objects (length objects) =
-      subst (λ (ts : List Declaration). word ≡ start_of ts objects (length objects)) lies.types_are (subst (λ (os : List (Object ℕ)). word ≡ start_of after.table.types os (length os)) lies.objects_are at) in
+      let is : word ≡ dense_start types objects (length objects) =
+      subst (λ (ts : List Declaration). word ≡ dense_start ts objects (length objects)) lies.types_are (subst (λ (os : List (Object ℕ)). word ≡ dense_start after.table.types os (length os)) lies.objects_are at) in
       counted_more types objects o after.account.places word is lies.dense
   dense_made Copying o after word size wide lies place = tt

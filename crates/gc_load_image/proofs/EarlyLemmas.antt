@@ -27,7 +27,7 @@ use Rattle.gc_image.specs.declared.image.ImageValue.{ImageValue}
 use Rattle.gc_image.specs.declared.image.ImageValue.TheVariants as value
 use Rattle.gc_image.specs.declared.image.ObjectLine.{ObjectLine}
 use Rattle.gc_image.specs.declared.image.ObjectLine.TheVariants as object
-use Rattle.gc_image.specs.Well.{as_object, as_value, is_constant, is_early, number_named, wants_object}
+use Rattle.gc_image.specs.Well.{as_object, as_value, is_immutable, is_early, number_named, wants_object}
 use Rattle.gc_load_image.specs.Stages.{early_object, early_objects, early_reference, early_value}
 use Rattle.gc_load_image.proofs.FitsAlike.{AlikeObject, AlikeValue, fits_alike}
 
@@ -110,7 +110,7 @@ null_goes types objects (storage.ValType (val.Ref ty)) class any form = ap₂ (�
     nullable false e = absurd (cc e)
 
 late_nullable : (field : FieldType) → (is_early field ≡ true → ⊥) → wants_object field.element_type ≡ false
-late_nullable field none = by (is_constant field.mutability) (wants_object field.element_type) refl none
+late_nullable field none = by (is_immutable field.mutability) (wants_object field.element_type) refl none
   where
     by : (a b : Bool) → wants_object field.element_type ≡ b → ((a || b) ≡ true → ⊥) → wants_object field.element_type ≡ false
     by true b is none = absurd (none refl)

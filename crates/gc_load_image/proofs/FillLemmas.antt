@@ -25,16 +25,16 @@ use Rattle.gc_owner.specs.declared.entry.GcClass.{GcClass}
 use Rattle.gc_owner.specs.declared.entry.GcClass.TheVariants as class
 use Rattle.gc_load_image.specs.declared.fault.LoadFault.{LoadFault}
 use Rattle.gc_load_image.specs.declared.fault.LoadFault.TheVariants as fault
-use Rattle.gc_load_image.specs.Loads.{global_present, present_count}
-use Rattle.gc_load_image.specs.Stages.{AreSlots, Complete, FailedValues, Filled, FoundValues, GlobalsSet, Goes, HeldStand, IsReferenceValue, MadeAll, Stops, early_value, global_value, line_roots, with_globals}
+use Rattle.gc_load_image.specs.Loads.{global_present, value_present}
+use Rattle.gc_load_image.specs.Stages.{AreSlots, Complete, FailedValues, FilledStore, FoundValues, GlobalsSet, LoadGoesOn, HeldStand, IsReferenceValue, MadeAll, Stops, early_value, global_line_value, line_roots, with_globals}
 use Rattle.gc_load_image.proofs.MakingLemmas.{values_stop}
 use Rattle.gc_load_image.proofs.MakingLoop.{bare_standing, same_limits, stops_later}
 use Rattle.gc_load_image.proofs.SettingsLemmas.{settings_held, settings_itself, settings_twice, unused_like}
 
 -- how many roots globals want
-globals_present : (globals : List GlobalLine) → sum_by present_count (map global_value globals) ≡ sum_by global_present globals
+globals_present : (globals : List GlobalLine) → sum_by value_present (map global_line_value globals) ≡ sum_by global_present globals
 globals_present [] = refl
-globals_present (g ∷ globals) = sum_by-cons present_count g.value (map global_value globals) ∙ ap (λ n. present_count g.value + n) (globals_present globals) ∙ sym (sum_by-cons global_present g globals)
+globals_present (g ∷ globals) = sum_by-cons value_present g.value (map global_line_value globals) ∙ ap (λ n. value_present g.value + n) (globals_present globals) ∙ sym (sum_by-cons global_present g globals)
 
 -- globals of an image are slots
 reference_value : (count : ℕ) (v : ImageValue) → HoldsReference count v → IsReferenceValue v
@@ -66,25 +66,25 @@ held_is count (value.F32 n) is = refl
 held_is count (value.F64 n) is = refl
 held_is count (value.V128 n) is = refl
 
-values_are : (count : ℕ) (globals : List GlobalLine) → AreWellGlobals count globals → map (early_value count) (map global_value globals) ≡ map (λ (g : GlobalLine). as_value g.value) globals
+values_are : (count : ℕ) (globals : List GlobalLine) → AreWellGlobals count globals → map (early_value count) (map global_line_value globals) ≡ map (λ (g : GlobalLine). as_value g.value) globals
 values_are count [] well = refl
 values_are count (g ∷ globals) well = ap₂ (λ v vs. v ∷ vs) (held_is count g.value (well 0 g refl).1) (values_are count globals (λ i. well (suc i)))
 
 pub held_stand : (layouts : Layouts) (handles : List GcRootIndex) (count : ℕ) (globals : List GlobalLine) (old : StoreView ℕ) (t : Table ℕ) (a : Account) (raws : List RawValue) (new : StoreView ℕ) → length handles ≡ count → AreWellGlobals count globals
-    → (found : FoundValues layouts handles (map global_value globals) old t a raws new) → HeldStand new found.pushes.table raws globals
+    → (found : FoundValues layouts handles (map global_line_value globals) old t a raws new) → HeldStand new found.pushes.table raws globals
 held_stand layouts handles count globals old t a raws new same well found =
-    subst (AllStand new found.pushes.table raws) (ap (λ n. map (early_value n) (map global_value globals)) same ∙ values_are count globals well) found.stand
+    subst (AllStand new found.pushes.table raws) (ap (λ n. map (early_value n) (map global_line_value globals)) same ∙ values_are count globals well) found.stand
 
-pub held_count : (layouts : Layouts) (handles : List GcRootIndex) (globals : List GlobalLine) (old : StoreView ℕ) (t : Table ℕ) (a : Account) (raws : List RawValue) (new : StoreView ℕ) → FoundValues layouts handles (map global_value globals) old t a raws new → length raws ≡ length globals
-held_count layouts handles globals old t a raws new found = found.stand.same_count ∙ length-map (map global_value globals) (early_value (length handles)) ∙ length-map globals global_value
+pub held_count : (layouts : Layouts) (handles : List GcRootIndex) (globals : List GlobalLine) (old : StoreView ℕ) (t : Table ℕ) (a : Account) (raws : List RawValue) (new : StoreView ℕ) → FoundValues layouts handles (map global_line_value globals) old t a raws new → length raws ≡ length globals
+held_count layouts handles globals old t a raws new found = found.stand.same_count ∙ length-map (map global_line_value globals) (early_value (length handles)) ∙ length-map globals global_line_value
 
 module _ (layouts : Layouts) (lines : List ObjectLine) (globals : List GlobalLine) (limits limits' : Limits) (old mid written : StoreView ℕ) (handles : List GcRootIndex) (made : MadeAll layouts lines limits limits' old handles mid) where
   -- objects that were not made
   abbrev most : ℕ
   most = sum_by line_roots lines + sum_by global_present globals
 
-  module _ (complete : Complete layouts lines handles written) (goes : Goes 0 mid written) where
-    goes_far : Goes (sum_by line_roots lines) old written
+  module _ (complete : Complete layouts lines handles written) (goes : LoadGoesOn 0 mid written) where
+    goes_far : LoadGoesOn (sum_by line_roots lines) old written
     goes_far = record {
       few = (let a = made.goes.few in let b = goes.few in omega (arith, a, b));
       same = settings_twice old mid written made.goes.same goes.same;
@@ -92,14 +92,14 @@ module _ (layouts : Layouts) (lines : List ObjectLine) (globals : List GlobalLin
     }
 
     -- what globals are to hold was not found
-    pub globals_stop : (why : LoadFault) (new : StoreView ℕ) → FailedValues layouts handles (map global_value globals) written complete.table complete.account why new → Stops layouts old.types lines limits limits' most old why new
+    pub globals_stop : (why : LoadFault) (new : StoreView ℕ) → FailedValues layouts handles (map global_line_value globals) written complete.table complete.account why new → Stops layouts old.types lines limits limits' most old why new
     globals_stop why new failed =
         stops_later layouts lines limits limits' limits' (sum_by line_roots lines) (sum_by global_present globals) most old written why new goes_far made.counts (omega arith)
-        (values_stop layouts handles written.types lines limits' (sum_by present_count (map global_value globals)) (sum_by global_present globals) written complete.table complete.account why new (let e = globals_present globals in omega (arith, e)) (sym complete.standing.holds.holds.types) failed.pushes failed.cause)
+        (values_stop layouts handles written.types lines limits' (sum_by value_present (map global_line_value globals)) (sum_by global_present globals) written complete.table complete.account why new (let e = globals_present globals in omega (arith, e)) (sym complete.standing.holds.holds.types) failed.pushes failed.cause)
 
     -- all was done
-    pub filled : (raws : List RawValue) (then new : StoreView ℕ) → (found : FoundValues layouts handles (map global_value globals) written complete.table complete.account raws then) → GlobalsSet layouts globals (length globals) found.pushes.table complete.account new
-        → (n : ℕ) → n ≡ length handles → Filled layouts lines globals old n new
+    pub filled : (raws : List RawValue) (then new : StoreView ℕ) → (found : FoundValues layouts handles (map global_line_value globals) written complete.table complete.account raws then) → GlobalsSet layouts globals (length globals) found.pushes.table complete.account new
+        → (n : ℕ) → n ≡ length handles → FilledStore layouts lines globals old n new
     filled raws then new found set n count = record {
       table = with_globals set.slots found.pushes.table;
       account = complete.account;

@@ -7,7 +7,7 @@ use Rattle.std.proofs.lemmas.Option.{none-some, same_Some, slice_get-map, slice_
 use Rattle.gc_types.specs.declared.kind.Layouts.{Layouts}
 use Rattle.gc_model.specs.Globals.{set_global}
 use Rattle.gc_model.specs.Stores.{StoreView}
-use Rattle.gc_model.specs.Table.{Table, Slot, empty_slot, global_count}
+use Rattle.gc_model.specs.Table.{Table, Slot, null_slot, global_count}
 use Rattle.gc_model.specs.Values.{Reference, null, small, at, reference}
 use Rattle.gc_model.proofs.Changes.{slice_get-set_other, slice_get-set_same}
 use Rattle.gc_model.proofs.Lists.{slice_get-take}
@@ -179,13 +179,13 @@ module _ (layouts : Layouts) (globals : List GlobalLine) (held : List RawValue) 
         set = globals_more globals rising i g says.0 says.1.0 here says.1.1 set.slots (let below = (slots i g here).0 in omega (arith, below, many)) set.set;
       }
 
-pub none_set : (layouts : Layouts) (globals : List GlobalLine) (s : StoreView ℕ) (t : Table ℕ) (a : Account) → HoldsAccount layouts s t a → t.globals ≡ replicate global_count empty_slot → GlobalsSet layouts globals 0 t a s
+pub none_set : (layouts : Layouts) (globals : List GlobalLine) (s : StoreView ℕ) (t : Table ℕ) (a : Account) → HoldsAccount layouts s t a → t.globals ≡ replicate global_count null_slot → GlobalsSet layouts globals 0 t a s
 none_set layouts globals s t a holds unset = record {
   slots = t.globals;
   holds = holds;
   set = record {
     said = λ j line e. absurd (none-some line e);
-    unsaid = λ k slot e none. replicated empty_slot global_count k slot (sym (ap (λ (xs : List Slot). slice_get xs k) unset) ∙ e);
+    unsaid = λ k slot e none. replicated null_slot global_count k slot (sym (ap (λ (xs : List Slot). slice_get xs k) unset) ∙ e);
   };
 }
 

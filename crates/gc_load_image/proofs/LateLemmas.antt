@@ -31,7 +31,7 @@ use Rattle.gc_image.specs.declared.image.ObjectLine.{ObjectLine}
 use Rattle.gc_image.specs.declared.image.ObjectLine.TheVariants as object
 use Rattle.gc_image.specs.Well.{AreWellObjects, IsWellValue, as_object, as_value, line_values}
 use Rattle.gc_image.proofs.AlikeLemmas.{named_below}
-use Rattle.gc_load_image.specs.Stages.{AreWritten, Complete, Goes, Making, Standing, StandsTo, Writing, early_object, early_objects, early_value, line_object}
+use Rattle.gc_load_image.specs.Stages.{AreWritten, Complete, LoadGoesOn, Making, Standing, StandsTo, Writing, early_object, early_objects, early_value, line_object}
 use Rattle.gc_load_image.proofs.EarlyLemmas.{AreMade, early_alike, early_at, early_length, made_alike, reference_stored}
 use Rattle.gc_load_image.proofs.PushedRoots.{named_same}
 use Rattle.gc_load_image.proofs.FitsAlike.{AlikeObject, can_store, fits_alike}
@@ -287,7 +287,7 @@ module _ (layouts : Layouts) (lines : List ObjectLine) (handles : List GcRootInd
           rest = λ p x above e. slice_get-change_at_other number (with_value index target) t.objects p (λ eq. absurd (omega (arith, eq, above))) ∙ w.rest p x above e;
         }
 
-        pub goes_written : Goes 0 s new
+        pub goes_written : LoadGoesOn 0 s new
         goes_written = record {
           few = (let before = w.standing.holds.holds.scoped.same_count in let after = holds_new.holds.scoped.same_count in omega (arith, before, after));
           same = settings_held layouts s new t u w.account w.account w.standing.holds holds_new refl refl refl;
@@ -296,10 +296,10 @@ module _ (layouts : Layouts) (lines : List ObjectLine) (handles : List GcRootInd
 
 -- From one object to the next, and to the end
 
-pub goes_none : (s : StoreView ℕ) → Goes 0 s s
+pub goes_none : (s : StoreView ℕ) → LoadGoesOn 0 s s
 goes_none s = record { few = omega arith; same = settings_itself s; types = refl }
 
-pub goes_on : (a b c : StoreView ℕ) → Goes 0 a b → Goes 0 b c → Goes 0 a c
+pub goes_on : (a b c : StoreView ℕ) → LoadGoesOn 0 a b → LoadGoesOn 0 b c → LoadGoesOn 0 a c
 goes_on a b c one two = record { few = (let x = one.few in let y = two.few in omega (arith, x, y)); same = settings_twice a b c one.same two.same; types = two.types ∙ one.types }
 
 pub writing_start : (layouts : Layouts) (lines : List ObjectLine) (handles : List GcRootIndex) (s : StoreView ℕ) → length handles ≡ length lines → Making layouts lines handles s → Writing layouts lines handles 0 0 s

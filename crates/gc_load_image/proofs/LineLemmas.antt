@@ -17,13 +17,13 @@ use Rattle.gc_model.specs.Table.{Table}
 use Rattle.gc_model.specs.Values.{Value, struct, array, exception}
 use Rattle.gc_model.proofs.Lists.{slice_get-same_length}
 use Rattle.gc_values.specs.declared.root.RawValue.{RawValue}
-use Rattle.gc_store.specs.Requests.{CanPlaceFields, element_of, exn_fields_of, fields_of, stored_as}
+use Rattle.gc_store.specs.Requests.{CanPlaceFields, element_of, exn_fields_of, struct_fields_of, stored_as}
 use Rattle.gc_store.specs.Values.{AllStand, CanStore}
 use Rattle.gc_image.specs.declared.image.ImageValue.{ImageValue}
 use Rattle.gc_image.specs.declared.image.ObjectLine.{ObjectLine}
 use Rattle.gc_image.specs.declared.image.ObjectLine.TheVariants as object
 use Rattle.gc_image.specs.Well.{IsPacked, IsWellObject, as_object, as_value, line_values}
-use Rattle.gc_load_image.specs.Stages.{CanPlaceLine, IsLineOf, early_object, early_value}
+use Rattle.gc_load_image.specs.Stages.{CanPlaceLine, IsLineObject, early_object, early_value}
 use Rattle.gc_load_image.proofs.EarlyLemmas.{AreMade, early_fits, early_stored}
 use Rattle.gc_load_image.proofs.FitsAlike.{can_store}
 use Rattle.gc_load_image.proofs.SizeLemmas.{some_element}
@@ -119,12 +119,12 @@ module _ (layouts : Layouts) (s : StoreView ℕ) (t : Table ℕ) (holds : HoldsT
   line_can (object.Exn ty tag values) well raws stand =
       fields_can (object.Exn ty tag values) well raws stand (exn_fields_at s.types ty) well.shape (λ i fs e. ap (λ (o : Option (List FieldType)). listed_type o i) e)
 
-  pub line_is : (line : ObjectLine) → IsWellObject s.types (map as_object lines) k line → (raws : List RawValue) → AllStand s t raws (map (early_value k) (line_values line)) → IsLineOf s t line raws (early_object k line)
+  pub line_is : (line : ObjectLine) → IsWellObject s.types (map as_object lines) k line → (raws : List RawValue) → AllStand s t raws (map (early_value k) (line_values line)) → IsLineObject s t line raws (early_object k line)
   line_is (object.Struct ty values) well raws stand = (
     map (early_value k) values,
     (
       stand,
-      ap (struct ty) (sym (ap (λ (ts : List Declaration). stored_in (fields_of ts ty) (map (early_value k) values)) (sym same_types)
+      ap (struct ty) (sym (ap (λ (ts : List Declaration). stored_in (struct_fields_of ts ty) (map (early_value k) values)) (sym same_types)
           ∙ fields_kept (object.Struct ty values) well raws stand (struct_fields_at s.types ty) well.shape (λ i fs e. ap (λ (o : Option (List FieldType)). listed_type o i) e))),
     ),
   )

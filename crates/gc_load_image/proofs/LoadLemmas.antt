@@ -28,12 +28,12 @@ use Rattle.gc_image.specs.declared.image.ObjectLine.{ObjectLine}
 use Rattle.gc_image.specs.declared.image.ObjectLine.TheVariants as object
 use Rattle.gc_image.specs.Images.{AreGlobals, Images, SaysSlot, placed_object, placed_value}
 use Rattle.gc_image.specs.Parts.{ImageParts}
-use Rattle.gc_image.specs.Text.{FitsGlobal, FitsImage, FitsObject, FitsValue, image_text}
-use Rattle.gc_image.specs.Well.{IsHeld, IsWellImage, Names, as_object, as_value, line_values, number_named}
+use Rattle.gc_image.specs.Text.{FitsGlobal, FitsImage, FitsObject, FitsImageValue, image_text}
+use Rattle.gc_image.specs.Well.{GlobalHolds, IsWellImage, NamesByNumber, as_object, as_value, line_values, number_named}
 use Rattle.gc_load_image.specs.declared.fault.LoadFault.{LoadFault}
 use Rattle.gc_load_image.specs.declared.fault.LoadFault.TheVariants as fault
-use Rattle.gc_load_image.specs.Loads.{Causes, HasTooLarge, KeepsSettings, LacksHeap, Loads, NotLoaded, TypesLeft, WasRefused, first_pages, global_present, line_count, more_pages, past_most, reference_count}
-use Rattle.gc_load_image.specs.Stages.{AreGlobalsInRange, AreInRange, DeclaresAll, Filled, Fills, ImageCauses, ImageTypesLeft, IsDense, KeepsButTypes, LoadedImage, LoadsImage, Making, NotLoadedImage, StopCause, Stops, line_roots, with_types}
+use Rattle.gc_load_image.specs.Loads.{Causes, HasTooLarge, KeepsSettings, LacksHeap, Loads, NotLoaded, TypesLeft, WasRefused, first_pages, global_present, line_count, more_pages, past_most, image_reference_count}
+use Rattle.gc_load_image.specs.Stages.{AreGlobalsInRange, AreInRange, DeclaresAll, FilledStore, FillsStore, ImageCauses, ImageTypesLeft, IsDense, KeepsButTypes, LoadedImage, LoadsImage, Making, NotLoadedImage, StopCause, Stops, line_roots, with_types}
 use Rattle.gc_load_image.proofs.CountUp.{all_counted, count_up, counted_at, length-count_up}
 use Rattle.gc_load_image.proofs.GlobalLemmas.{placed_self}
 use Rattle.gc_load_image.proofs.SettingsLemmas.{left_alone, settings_held, settings_twice}
@@ -45,12 +45,12 @@ range_of P [] all i x e = absurd (none-some x e)
 range_of P (y ∷ xs) all zero x e = subst P (same_Some y x e) all.0
 range_of P (y ∷ xs) all (suc i) x e = range_of P xs all.1 i x e
 
-object_range : (line : ObjectLine) → FitsObject line → (index : ℕ) (v : ImageValue) → slice_get (line_values line) index ≡ Some v → FitsValue v
-object_range (object.Struct ty values) fits index v e = range_of FitsValue values fits.1 index v e
-object_range (object.Array ty values) fits index v e = range_of FitsValue values fits.1 index v e
+object_range : (line : ObjectLine) → FitsObject line → (index : ℕ) (v : ImageValue) → slice_get (line_values line) index ≡ Some v → FitsImageValue v
+object_range (object.Struct ty values) fits index v e = range_of FitsImageValue values fits.1 index v e
+object_range (object.Array ty values) fits index v e = range_of FitsImageValue values fits.1 index v e
 object_range (object.Bytes ty bytes) fits index v e = absurd (none-some v e)
 object_range (object.Host n) fits index v e = absurd (none-some v e)
-object_range (object.Exn ty tag values) fits index v e = range_of FitsValue values fits.3 index v e
+object_range (object.Exn ty tag values) fits index v e = range_of FitsImageValue values fits.3 index v e
 
 pub in_range : (image : ImageParts) → FitsImage image → AreInRange image.objects
 in_range image fits number line e index v f = object_range line (range_of FitsObject image.objects fits.objects number line e) index v f
@@ -139,7 +139,7 @@ module _ (layouts : Layouts) (image : ImageParts) (well : IsWellImage image) (s 
       let slot : says.0 ≡ record { class = is.0; reference = at p } = subst (λ (v : ImageValue). SaysSlot (λ n. n) v says.0) is.1 says.1.1 in
       contains_slot (slot_references t.globals) g.index (at p) (slice_get-map (λ (x : Slot). x.reference) t.globals g.index ∙ ap (option_map (λ (x : Slot). x.reference)) says.1.0 ∙ ap (λ (x : Slot). Some x.reference) slot)
 
-  goes_there : (p : ℕ) → Reachable (IsHeld image.globals) (Names image.objects) p → Reached t.objects (slot_references t.globals) p
+  goes_there : (p : ℕ) → Reachable (GlobalHolds image.globals) (NamesByNumber image.objects) p → Reached t.objects (slot_references t.globals) p
   goes_there p (by_start held) = by_start (global_starts p held.0 held.1 held.2.0 held.2.1)
   goes_there p (by_step {y = q} reached names) =
       by_step (goes_there q reached) (record { object = as_object names.0; there = object_at q names.0 names.3.0; among = line_names names.0 names.1 names.2 p names.3.1.0 names.3.1.1 })
@@ -186,7 +186,7 @@ roots_are (line ∷ lines) =
     let b = sum_by-cons line_count line lines in
     omega (arith, rest, a, b)
 
-pub roots_wanted : (image : ImageParts) (most count : ℕ) → count ≡ 0 → most < count + (sum_by line_roots image.objects + sum_by global_present image.globals) → most < length image.objects + 2 * reference_count image
+pub roots_wanted : (image : ImageParts) (most count : ℕ) → count ≡ 0 → most < count + (sum_by line_roots image.objects + sum_by global_present image.globals) → most < length image.objects + 2 * image_reference_count image
 roots_wanted image most count none past = let e = roots_are image.objects in omega (arith, e, none, past)
 
 -- What is left when the scope is left
@@ -199,7 +199,7 @@ refused_left need limits limits' t (more_pages made above rose last) = more_page
 lacks_left : (layouts : Layouts) (types : List Declaration) (lines : List ObjectLine) (need : ℕ) (limits limits' : Limits) (t : Table ℕ) → LacksHeap layouts types lines need limits limits' t → LacksHeap layouts types lines need limits limits' (leave 0 t)
 lacks_left layouts types lines need limits limits' t lacks = record { number = lacks.number; line = lacks.line; line_is = lacks.line_is; need_is = lacks.need_is; refused = refused_left need limits limits' t lacks.refused; full = lacks.full }
 
-pub loaded_image : (layouts : Layouts) (image : ImageParts) (well : IsWellImage image) (old now new : StoreView ℕ) (n scope : ℕ) → old.types ≡ well.types → scope ≡ 0 → (filled : Filled layouts image.objects image.globals old n now)
+pub loaded_image : (layouts : Layouts) (image : ImageParts) (well : IsWellImage image) (old now new : StoreView ℕ) (n scope : ℕ) → old.types ≡ well.types → scope ≡ 0 → (filled : FilledStore layouts image.objects image.globals old n now)
     → ((t : Table ℕ) (a : Account) → HoldsAccount layouts now t a → HoldsAccount layouts new (leave scope t) a) → LoadedImage layouts image n new
 loaded_image layouts image well old now new n scope types none filled leaves =
     let holds : HoldsAccount layouts new (leave 0 filled.table) filled.account = subst (λ k. HoldsAccount layouts new (leave k filled.table) filled.account) none (leaves filled.table filled.account filled.holds) in
@@ -244,7 +244,7 @@ not_loaded layouts image well limits limits' most old now new scope why types sa
     by fault.Memory c = tt
 
 pub loads_all : (layouts : Layouts) (image : ImageParts) (well : IsWellImage image) (limits limits' : Limits) (most : ℕ) (old now new : StoreView ℕ) (scope : ℕ) (result : Result ℕ LoadFault) → old.types ≡ well.types → old.max_scoped ≡ most → length old.scoped ≡ 0 → scope ≡ 0
-    → Fills layouts image.objects image.globals limits limits' old result now → ((t : Table ℕ) (a : Account) → HoldsAccount layouts now t a → HoldsAccount layouts new (leave scope t) a) → LoadsImage layouts most image limits limits' result new
+    → FillsStore layouts image.objects image.globals limits limits' old result now → ((t : Table ℕ) (a : Account) → HoldsAccount layouts now t a → HoldsAccount layouts new (leave scope t) a) → LoadsImage layouts most image limits limits' result new
 loads_all layouts image well limits limits' most old now new scope (Ok n) types same count none fills leaves = loaded_image layouts image well old now new n scope types none fills leaves
 loads_all layouts image well limits limits' most old now new scope (Err why) types same count none fills leaves = not_loaded layouts image well limits limits' most old now new scope why types same count none fills leaves
 
@@ -272,7 +272,7 @@ settings_declared layouts s new holds keeps =
     let t = start s.first s.max_scoped s.max_owned in
     settings_held layouts s new t (with_types new.types t) no_account no_account holds (keeps t no_account holds) refl refl refl
 
-pub settings_filled : (layouts : Layouts) (lines : List ObjectLine) (globals : List GlobalLine) (limits limits' : Limits) (old now new : StoreView ℕ) (scope : ℕ) (result : Result ℕ LoadFault) → Fills layouts lines globals limits limits' old result now
+pub settings_filled : (layouts : Layouts) (lines : List ObjectLine) (globals : List GlobalLine) (limits limits' : Limits) (old now new : StoreView ℕ) (scope : ℕ) (result : Result ℕ LoadFault) → FillsStore layouts lines globals limits limits' old result now
     → ((t : Table ℕ) (a : Account) → HoldsAccount layouts now t a → HoldsAccount layouts new (leave scope t) a) → KeepsSettings old new
 settings_filled layouts lines globals limits limits' old now new scope (Ok n) filled leaves =
     settings_twice old now new filled.same

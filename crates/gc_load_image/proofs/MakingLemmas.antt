@@ -37,7 +37,7 @@ use Rattle.gc_image.specs.Well.{AreWellObjects, line_values}
 use Rattle.gc_load_image.specs.declared.fault.LoadFault.{LoadFault}
 use Rattle.gc_load_image.specs.declared.fault.LoadFault.TheVariants as fault
 use Rattle.gc_load_image.specs.Loads.{LacksHeap, WasRefused, first_pages, line_block, line_count, line_size, more_pages, past_most}
-use Rattle.gc_load_image.specs.Stages.{Counts, Goes, IsDense, MadeNext, MakesNext, Making, PlacesLine, Pushes, Standing, StopCause, Stops, StopsAtRoots, early_object, early_objects}
+use Rattle.gc_load_image.specs.Stages.{CountsNoLess, LoadGoesOn, IsDense, MadeNext, MakesNext, Making, PlacesLine, PushesForValues, Standing, StopCause, Stops, StopsAtRoots, early_object, early_objects}
 use Rattle.gc_load_image.proofs.AskLemmas.{AsksBy, prepares_asks, refused_first, refused_pages, too_many, unrefused}
 use Rattle.gc_load_image.proofs.DenseLemmas.{Lies, still_lies}
 use Rattle.gc_load_image.proofs.DenseMade.{dense_made}
@@ -50,17 +50,17 @@ use Rattle.gc_load_image.proofs.ValueLemmas.{full_is}
 
 -- Limits
 
-refused_more : (bytes a b pages pages' : ℕ) (limits limits' : Limits) → Refuses limits limits' pages pages' → Counts limits limits'
+refused_more : (bytes a b pages pages' : ℕ) (limits limits' : Limits) → Refuses limits limits' pages pages' → CountsNoLess limits limits'
 refused_more bytes a b pages pages' limits limits' refuses = record {
   limit = ap (λ (l : Limits). l.limit) refuses;
   refusals = (let e : limits'.refusals ≡ min (limits.refusals + 1) (2 ^ 64 - 1) = ap (λ (l : Limits). l.refusals) refuses in omega (arith, e));
 }
 
-same_counts : (limits limits' : Limits) → limits' ≡ limits → Counts limits limits'
+same_counts : (limits limits' : Limits) → limits' ≡ limits → CountsNoLess limits limits'
 same_counts limits limits' same = record { limit = ap (λ (l : Limits). l.limit) same; refusals = (let e : limits'.refusals ≡ limits.refusals = ap (λ (l : Limits). l.refusals) same in omega (arith, e)) }
 
 -- what was counted where all went well
-went_well : (bytes : ℕ) (limits limits' : Limits) (t : Table ℕ) → AsksBy bytes true limits limits' t → Counts limits limits'
+went_well : (bytes : ℕ) (limits limits' : Limits) (t : Table ℕ) → AsksBy bytes true limits limits' t → CountsNoLess limits limits'
 went_well bytes limits limits' t (unrefused ok same) = same_counts limits limits' same
 went_well bytes limits limits' t (too_many made past same) = same_counts limits limits' same
 went_well bytes limits limits' t (refused_pages made within refuses) = refused_more 0 0 0 t.pages (t.pages + asked t.pages bytes) limits limits' refuses
@@ -120,7 +120,7 @@ early_back number lines p o e = elim ((slice_get_cases lines p).1) [
 -- The next one
 
 module _ (layouts : Layouts) (lines : List ObjectLine) (handles : List GcRootIndex) (line : ObjectLine) (s mid new : StoreView ℕ) (m : Making layouts lines handles s) (well : AreWellObjects s.types lines)
-    (here : slice_get lines (length handles) ≡ Some line) (p : Pushes layouts handles (line_count line) s m.table m.account mid) where
+    (here : slice_get lines (length handles) ≡ Some line) (p : PushesForValues layouts handles (line_count line) s m.table m.account mid) where
   abbrev k : ℕ
   k = length handles
 
@@ -328,7 +328,7 @@ module _ (layouts : Layouts) (lines : List ObjectLine) (handles : List GcRootInd
       lies_after : Lies layouts t.types t.objects (root_references t) made.after
       lies_after = still_lies layouts counter (object_size layouts t.types o) state made.after true all_reached made.prepares dense
 
-      goes_next : Goes (1 + line_count line) s new
+      goes_next : LoadGoesOn (1 + line_count line) s new
       goes_next = record {
         few = (
             let before = p.standing.holds.holds.scoped.same_count in
@@ -340,7 +340,7 @@ module _ (layouts : Layouts) (lines : List ObjectLine) (handles : List GcRootInd
         types = holds_next.holds.types ∙ types_are;
       }
 
-      counts_next : Counts limits limits'
+      counts_next : CountsNoLess limits limits'
       counts_next =
           let asks = prepares_asks layouts counter (object_size layouts t.types o) state made.prepares in
           went_well (need_of layouts (object_size layouts t.types o)) limits limits' made.after.table
@@ -372,7 +372,7 @@ module _ (layouts : Layouts) (lines : List ObjectLine) (handles : List GcRootInd
 
 -- values of a line that weren't found stop it
 pub values_stop : (layouts : Layouts) (handles : List GcRootIndex) (types : List Declaration) (lines : List ObjectLine) (limits : Limits) (n most : ℕ) (s : StoreView ℕ) (t : Table ℕ) (a : Account) (why : LoadFault) (new : StoreView ℕ) → n ≤ most
-    → t.types ≡ s.types → Pushes layouts handles n s t a new → StopsAtRoots n s why → Stops layouts types lines limits limits most s why new
+    → t.types ≡ s.types → PushesForValues layouts handles n s t a new → StopsAtRoots n s why → Stops layouts types lines limits limits most s why new
 values_stop layouts handles types lines limits n most s t a why new below types_before p cause = by why cause
   where
     stops : (w : LoadFault) → StopCause layouts types lines limits limits most s w p.table → Stops layouts types lines limits limits most s w new

@@ -18,23 +18,23 @@ use Rattle.gc_load_image.specs.declared.fault.LoadFault.{LoadFault}
 use Rattle.gc_load_image.specs.declared.fault.LoadFault.TheVariants as fault
 use Rattle.gc_load_image.specs.Loads.{HasTooLarge, LacksHeap, WasRefused, first_pages, line_count, more_pages, past_most}
 use Rattle.gc_load_image.proofs.SettingsLemmas.{settings_itself, settings_twice}
-use Rattle.gc_load_image.specs.Stages.{Bare, Counts, Goes, MadeAll, MadeNext, Making, Standing, StopCause, Stops, line_roots}
+use Rattle.gc_load_image.specs.Stages.{Bare, CountsNoLess, LoadGoesOn, MadeAll, MadeNext, Making, Standing, StopCause, Stops, line_roots}
 
 -- the limiter
-pub same_limits : (limits : Limits) → Counts limits limits
+pub same_limits : (limits : Limits) → CountsNoLess limits limits
 same_limits limits = record { limit = refl; refusals = omega arith }
 
-pub counts_twice : (a b c : Limits) → Counts a b → Counts b c → Counts a c
+pub counts_twice : (a b c : Limits) → CountsNoLess a b → CountsNoLess b c → CountsNoLess a c
 counts_twice a b c one two = record { limit = two.limit ∙ one.limit; refusals = (let x = one.refusals in let y = two.refusals in omega (arith, x, y)) }
 
-refused_later : (need : ℕ) (a b c : Limits) (t : Table ℕ) → Counts a b → WasRefused need b c t → WasRefused need a c t
+refused_later : (need : ℕ) (a b c : Limits) (t : Table ℕ) → CountsNoLess a b → WasRefused need b c t → WasRefused need a c t
 refused_later need a b c t counts (first_pages unmade some above rose last) =
     first_pages unmade some (subst (λ l. MayRefuse l t.first) counts.limit above) (let x = counts.refusals in omega (arith, x, rose)) last
 refused_later need a b c t counts (past_most made past) = past_most made past
 refused_later need a b c t counts (more_pages made above rose last) =
     more_pages made (subst (λ l. MayRefuse l (t.pages + asked t.pages need)) counts.limit above) (let x = counts.refusals in omega (arith, x, rose)) last
 
-lacks_later : (layouts : Layouts) (types : List Declaration) (lines : List ObjectLine) (need : ℕ) (a b c : Limits) (t : Table ℕ) → Counts a b → LacksHeap layouts types lines need b c t → LacksHeap layouts types lines need a c t
+lacks_later : (layouts : Layouts) (types : List Declaration) (lines : List ObjectLine) (need : ℕ) (a b c : Limits) (t : Table ℕ) → CountsNoLess a b → LacksHeap layouts types lines need b c t → LacksHeap layouts types lines need a c t
 lacks_later layouts types lines need a b c t counts lacks = record {
   number = lacks.number;
   line = lacks.line;
@@ -45,7 +45,7 @@ lacks_later layouts types lines need a b c t counts lacks = record {
 }
 
 -- a step that stopped stops what it is a part of
-pub stops_later : (layouts : Layouts) (lines : List ObjectLine) (a b c : Limits) (m n most : ℕ) (old mid : StoreView ℕ) (why : LoadFault) (new : StoreView ℕ) → Goes m old mid → Counts a b → m + n ≤ most
+pub stops_later : (layouts : Layouts) (lines : List ObjectLine) (a b c : Limits) (m n most : ℕ) (old mid : StoreView ℕ) (why : LoadFault) (new : StoreView ℕ) → LoadGoesOn m old mid → CountsNoLess a b → m + n ≤ most
     → Stops layouts mid.types lines b c n mid why new → Stops layouts old.types lines a c most old why new
 stops_later layouts lines a b c m n most old mid why new goes counts below stops = record {
   bare = stops.bare;
@@ -69,8 +69,8 @@ bare_standing layouts handles s t a standing = record { table = t; account = a; 
 pub record MadeFront (layouts : Layouts) (lines : List ObjectLine) (limits limits' : Limits) (old : StoreView ℕ) (handles : List GcRootIndex) (i : ℕ) (new : StoreView ℕ) : Type 0 where
   pub making : Making layouts lines handles new
   pub count : length handles ≡ i
-  pub goes : Goes (sum_by line_roots (take i lines)) old new
-  pub counts : Counts limits limits'
+  pub goes : LoadGoesOn (sum_by line_roots (take i lines)) old new
+  pub counts : CountsNoLess limits limits'
   pub short : (number : ℕ) (line : ObjectLine) → number < i → slice_get lines number ≡ Some line → length (line_values line) < 2 ^ 32
 
 module _ (layouts : Layouts) (lines : List ObjectLine) (limits : Limits) (old : StoreView ℕ) where

@@ -12,7 +12,7 @@ use Rattle.gc_policy.specs.Policy.{PolicyState}
 use Rattle.gc_store.specs.declared.hosts.PlaceHostFault.{PlaceHostFault}
 use Rattle.gc_values.specs.declared.faults.PlaceFault.{PlaceFault}
 use Rattle.gc_store.specs.HostPlaces.{PlacesHost}
-use Rattle.gc_store.specs.Places.{Places, RefusesPlace, bytes_of}
+use Rattle.gc_store.specs.Places.{Places, RefusesPlace, size_in_table}
 use Rattle.gc_load_image.specs.declared.fault.LoadFault.TheVariants as fault
 use Rattle.gc_load_image.specs.Stages.{PlacesLine}
 use Rattle.gc_load_image.proofs.SizeLemmas.{elements_count, wide_is_large}
@@ -23,11 +23,11 @@ module _ (layouts : Layouts) (counter : Option ℕ) (o : Object ℕ) (p : Policy
   unchanged s holds same limits = record { holds = subst (λ (v : StoreView ℕ). HoldsAccount layouts v p.table p.account) (sym same) holds; limits = limits }
 
   -- more elements than 32 bits count
-  pub elements_large : (s : StoreView ℕ) → HoldsAccount layouts s p.table p.account → new ≡ s → limits' ≡ p.limits → too_large layouts (bytes_of layouts o p.table) ≡ true → PlacesLine layouts counter o p limits' (Err fault.TooLarge) new
+  pub elements_large : (s : StoreView ℕ) → HoldsAccount layouts s p.table p.account → new ≡ s → limits' ≡ p.limits → too_large layouts (size_in_table layouts o p.table) ≡ true → PlacesLine layouts counter o p limits' (Err fault.TooLarge) new
   elements_large s holds same limits large = (large, unchanged s holds same limits)
 
 -- how large an array is of so many elements
-pub array_large : (layouts : Layouts) (s : StoreView ℕ) (t : Table ℕ) (a : Account) (ty : ℕ) (values : List Value) → HoldsAccount layouts s t a → (element : _) → elem_at s.types ty ≡ Some element → 2 ^ 32 ≤ length values → too_large layouts (bytes_of layouts (array ty values) t) ≡ true
+pub array_large : (layouts : Layouts) (s : StoreView ℕ) (t : Table ℕ) (a : Account) (ty : ℕ) (values : List Value) → HoldsAccount layouts s t a → (element : _) → elem_at s.types ty ≡ Some element → 2 ^ 32 ≤ length values → too_large layouts (size_in_table layouts (array ty values) t) ≡ true
 array_large layouts s t a ty values holds element declared wide =
     let found : elem_at t.types ty ≡ Some element = ap (λ (ts : List Declaration). elem_at ts ty) (sym holds.holds.types) ∙ declared in
     let above = elements_count layouts (elem_at t.types ty) element (length values) found in

@@ -16,13 +16,13 @@ use Rattle.gc_view.proofs.Layouts.{round_up-le}
 use Rattle.gc_model.specs.Allocation.{LacksFit, LacksMemory, no_heap, no_room, copied_size, skipped}
 use Rattle.gc_model.specs.Gaps.{IsFront, IsGap, LiesAt, first, behind}
 use Rattle.gc_model.specs.Reach.{IsReached}
-use Rattle.gc_model.specs.Sizes.{block_of, block_at, next_after, next_place, object_size, rounded_size}
+use Rattle.gc_model.specs.Sizes.{block_bytes, block_bytes_at, next_after, next_place, object_size, rounded_size}
 use Rattle.gc_model.specs.Table.{Table, make_heap}
 use Rattle.gc_model.specs.Values.{Object}
 use Rattle.gc_model.specs.Words.{Placing}
 use Rattle.gc_image.specs.declared.image.ObjectLine.{ObjectLine}
 use Rattle.gc_load_image.specs.Loads.{heap_bound, line_block}
-use Rattle.gc_load_image.specs.Stages.{IsDense, early_objects, start_of}
+use Rattle.gc_load_image.specs.Stages.{IsDense, early_objects, dense_start}
 use Rattle.gc_load_image.proofs.CountUp.{all_counted, count_up, sum_at}
 use Rattle.gc_load_image.proofs.SizeLemmas.{early_blocks, null_place}
 
@@ -35,7 +35,7 @@ pub record Laid (layouts : Layouts) (t : Table ℕ) (places : Placing) (lines : 
   pub inside : (p : ℕ) → IsReached t p → p < length t.objects
 
 abbrev block : List Declaration → Object ℕ → ℕ
-block types o = block_of Counting types (Some o)
+block types o = block_bytes Counting types (Some o)
 
 blocks_aligned : (types : List Declaration) (objects : List (Object ℕ)) → (k : ℕ) × (sum_by (block types) objects ≡ k * 16)
 blocks_aligned types [] = (0, refl)
@@ -47,7 +47,7 @@ blocks_aligned types (o ∷ objects) =
 
 module _ (t : Table ℕ) (places : Placing) (lines : List ObjectLine) (laid : Laid Counting t places lines) where
   abbrev start : ℕ → ℕ
-  start p = start_of t.types t.objects p
+  start p = dense_start t.types t.objects p
 
   there : (p : ℕ) → p < length t.objects → (o : Object ℕ) × (slice_get t.objects p ≡ Some o)
   there p below = elim ((slice_get_cases t.objects p).1) [
@@ -55,13 +55,13 @@ module _ (t : Table ℕ) (places : Placing) (lines : List ObjectLine) (laid : La
     | inr past ↦ absurd (omega (arith, past.0, below))
   ]
 
-  block_here : (p : ℕ) (o : Object ℕ) → slice_get t.objects p ≡ Some o → (block_at Counting t p ≡ block t.types o) × (0 < block t.types o)
+  block_here : (p : ℕ) (o : Object ℕ) → slice_get t.objects p ≡ Some o → (block_bytes_at Counting t p ≡ block t.types o) × (0 < block t.types o)
   block_here p o is =
       let some = laid.some p o is in
       let up = round_up-le (object_size Counting t.types o) alignment (omega arith) in
-      (ap (block_of Counting t.types) is, omega (arith, some, up))
+      (ap (block_bytes Counting t.types) is, omega (arith, some, up))
 
-  start_more : (p : ℕ) → p < length t.objects → (start (p + 1) ≡ start p + block_at Counting t p) × (0 < block_at Counting t p)
+  start_more : (p : ℕ) → p < length t.objects → (start (p + 1) ≡ start p + block_bytes_at Counting t p) × (0 < block_bytes_at Counting t p)
   start_more p below =
       let o = there p below in
       let here = block_here p o.0 o.1 in
@@ -72,7 +72,7 @@ module _ (t : Table ℕ) (places : Placing) (lines : List ObjectLine) (laid : La
   start_end : start (length t.objects) ≡ skipped + sum_by (block t.types) t.objects
   start_end = ap (λ (xs : List (Object ℕ)). skipped + sum_by (block t.types) xs) (take_all (length t.objects) t.objects (omega arith))
 
-  ends_below : (p : ℕ) → p < length t.objects → start p + block_at Counting t p ≤ start (length t.objects)
+  ends_below : (p : ℕ) → p < length t.objects → start p + block_bytes_at Counting t p ≤ start (length t.objects)
   ends_below p below =
       let more = (start_more p below).0 in
       let under = sum_by-take-le (block t.types) t.objects (p + 1) in
@@ -88,7 +88,7 @@ module _ (t : Table ℕ) (places : Placing) (lines : List ObjectLine) (laid : La
       ]
 
   -- the place of a new one is behind the last
-  pub place_is : (word bytes : ℕ) → 0 < bytes → IsGap (LiesAt places) t word bytes → IsFront (LiesAt places) t word → word ≡ start_of t.types t.objects (length t.objects)
+  pub place_is : (word bytes : ℕ) → 0 < bytes → IsGap (LiesAt places) t word bytes → IsFront (LiesAt places) t word → word ≡ dense_start t.types t.objects (length t.objects)
   place_is word bytes wide gap (first is) = elim (cases_eq (length t.objects) 0) [
     | inl none ↦ is ∙ sym (ap start none)
     | inr some ↦ absurd (no_place_at word bytes wide gap 0 (omega (arith, some)) is)
@@ -112,10 +112,10 @@ module _ (t : Table ℕ) (places : Placing) (lines : List ObjectLine) (laid : La
   }
 
 -- the blocks of objects are those of lines
-blocks_are : (layouts : Layouts) (t : Table ℕ) (lines : List ObjectLine) → t.objects ≡ early_objects 0 lines → sum_by (λ (o : Object ℕ). block_of layouts t.types (Some o)) t.objects ≡ sum_by (line_block layouts t.types) lines
-blocks_are layouts t lines are = ap (sum_by (λ (o : Object ℕ). block_of layouts t.types (Some o))) are ∙ early_blocks layouts t.types 0 lines
+blocks_are : (layouts : Layouts) (t : Table ℕ) (lines : List ObjectLine) → t.objects ≡ early_objects 0 lines → sum_by (λ (o : Object ℕ). block_bytes layouts t.types (Some o)) t.objects ≡ sum_by (line_block layouts t.types) lines
+blocks_are layouts t lines are = ap (sum_by (λ (o : Object ℕ). block_bytes layouts t.types (Some o))) are ∙ early_blocks layouts t.types 0 lines
 
-rounded_is : (types : List Declaration) (o : Option (Object ℕ)) → rounded_size types o ≡ block_of Copying types o
+rounded_is : (types : List Declaration) (o : Option (Object ℕ)) → rounded_size types o ≡ block_bytes Copying types o
 rounded_is types None = refl
 rounded_is types (Some o) = refl
 
@@ -135,7 +135,7 @@ full_or_room Counting t places lines size laid lacks = elim (cases_lt (heap_boun
       let end = start_end t places lines laid in
       let blocks = blocks_are Counting t lines laid.objects in
       let gap = gap_behind t places lines laid (round_up size alignment) t.pages (omega (arith, end, blocks, room)) refl in
-      lacks (start_of t.types t.objects (length t.objects), record { aligned = gap.aligned; not_null = gap.not_null; inside = gap.inside; apart = λ p word kept. gap.apart p word kept.0 }))
+      lacks (dense_start t.types t.objects (length t.objects), record { aligned = gap.aligned; not_null = gap.not_null; inside = gap.inside; apart = λ p word kept. gap.apart p word kept.0 }))
 ]
 full_or_room Copying t places lines size laid lacks = elim (cases_lt (heap_bound Copying t.pages) (skipped + sum_by (line_block Copying t.types) lines + round_up size alignment)) [
   | inl full ↦ full

@@ -14,7 +14,7 @@ use Rattle.gc_types.specs.Declarations.{Declaration, elem_at, struct_fields_at}
 use Rattle.gc_types.specs.Layouts.{array_base, exception_base, fields_end, round_up, storage_width, struct_base}
 use Rattle.gc_view.specs.Sizes.{alignment, too_large}
 use Rattle.gc_view.proofs.Layouts.{round_up-le, storage_width_positive}
-use Rattle.gc_model.specs.Sizes.{block_of, elements_size, exception_size, exn_fields_at, fields_size, object_size, next_after}
+use Rattle.gc_model.specs.Sizes.{block_bytes, elements_size, exception_size, exn_fields_at, fields_size, object_size, next_after}
 use Rattle.gc_model.specs.Stored.{byte_value}
 use Rattle.gc_model.specs.Values.{Object}
 use Rattle.gc_image.specs.declared.image.ObjectLine.{ObjectLine}
@@ -112,11 +112,11 @@ early_size layouts types number (object.Bytes ty bytes) = refl
 early_size layouts types number (object.Host n) = refl
 early_size layouts types number (object.Exn ty tag values) = refl
 
-pub early_blocks : (layouts : Layouts) (types : List Declaration) (number : ℕ) (lines : List ObjectLine) → sum_by (λ (o : Object ℕ). block_of layouts types (Some o)) (early_objects number lines) ≡ sum_by (line_block layouts types) lines
+pub early_blocks : (layouts : Layouts) (types : List Declaration) (number : ℕ) (lines : List ObjectLine) → sum_by (λ (o : Object ℕ). block_bytes layouts types (Some o)) (early_objects number lines) ≡ sum_by (line_block layouts types) lines
 early_blocks layouts types number [] = refl
 early_blocks layouts types number (line ∷ lines) =
-    let here : block_of layouts types (Some (early_object number line)) ≡ line_block layouts types line = ap (λ n. round_up n alignment) (early_size layouts types number line) in
-    sum_by-cons (λ (o : Object ℕ). block_of layouts types (Some o)) (early_object number line) (early_objects (number + 1) lines)
+    let here : block_bytes layouts types (Some (early_object number line)) ≡ line_block layouts types line = ap (λ n. round_up n alignment) (early_size layouts types number line) in
+    sum_by-cons (λ (o : Object ℕ). block_bytes layouts types (Some o)) (early_object number line) (early_objects (number + 1) lines)
     ∙ ap₂ (λ a b. a + b) here (early_blocks layouts types (number + 1) lines)
     ∙ sym (sum_by-cons (line_block layouts types) line lines)
 

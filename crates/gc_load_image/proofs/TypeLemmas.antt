@@ -18,7 +18,7 @@ use Rattle.std.specs.Prelude.{MatchResult}
 use Rattle.std.specs.Result.{IsErrAnd}
 use Rattle.gc_load_image.specs.declared.fault.LoadFault.{LoadFault}
 use Rattle.gc_load_image.specs.declared.fault.LoadFault.TheVariants as fault
-use Rattle.gc_load_image.specs.Loads.{IsFront}
+use Rattle.gc_load_image.specs.Loads.{AreFirstTypes}
 use Rattle.gc_load_image.specs.Stages.{DeclaresAll, DeclaresType, KeepsButTypes, told_of_type, with_types}
 
 abbrev pub SomeTable : Layouts → StoreView ℕ → Type 0
@@ -57,7 +57,7 @@ pub keeps_twice : (layouts : Layouts) (old mid new : StoreView ℕ) → KeepsBut
 keeps_twice layouts old mid new one two t a holds = two (with_types mid.types t) a (one t a holds)
 
 -- the types so far are the first of those that are declared in turn
-pub turn_front : (types : List Declaration) (commands : List Command) (all : List Declaration) → DeclareInTurn types commands all → IsFront types all
+pub turn_front : (types : List Declaration) (commands : List Command) (all : List Declaration) → DeclareInTurn types commands all → AreFirstTypes types all
 turn_front types [] all turn = ([], sym turn ∙ sym (append-nil types))
 turn_front types (command ∷ commands) all turn =
     let rest = turn_front (types ++ turn.0 ∷ []) commands all turn.1.1 in
@@ -70,7 +70,7 @@ stops_in_turn commands types new i command below is turn fault.BadImage none = t
 stops_in_turn commands types new i command below is turn fault.TooLarge none = none
 stops_in_turn commands types new i command below is turn fault.RootsFull none = none
 stops_in_turn commands types new i command below is turn (fault.HeapOutOfMemory f) none = none
-stops_in_turn commands types new i command below is turn fault.Memory same = λ all start. subst (λ (ts : List Declaration). IsFront ts all) (sym same) (turn_front types (drop i commands) all (turn.onward all start))
+stops_in_turn commands types new i command below is turn fault.Memory same = λ all start. subst (λ (ts : List Declaration). AreFirstTypes ts all) (sym same) (turn_front types (drop i commands) all (turn.onward all start))
 
 -- an error that is handed on
 pub err_is : {A E : Type 0} (r : Result A E) (why : E) → IsErrAnd r (λ (e : E). e ≡ why) → r ≡ Err why

@@ -24,14 +24,14 @@ use Rattle.gc_image.specs.declared.image.ImageReference.{ImageReference}
 use Rattle.gc_image.specs.declared.image.ImageReference.TheVariants as image_reference
 use Rattle.gc_image.specs.declared.image.ImageValue.{ImageValue}
 use Rattle.gc_image.specs.declared.image.ImageValue.TheVariants as value
-use Rattle.gc_image.specs.Text.{FitsReference, FitsValue}
+use Rattle.gc_image.specs.Text.{FitsImageReference, FitsImageValue}
 use Rattle.gc_load_image.specs.declared.fault.LoadFault.{LoadFault}
-use Rattle.gc_load_image.specs.Stages.{FindsHandle, FindsValue, Pushes, Standing, StopsAtRoots, early_reference, told_of_root}
+use Rattle.gc_load_image.specs.Stages.{FindsHandle, FindsRawValue, PushesForValues, Standing, StopsAtRoots, early_reference, told_of_root}
 use Rattle.gc_load_image.proofs.PushedRoots.{named_pushed, new_named}
 use Rattle.gc_load_image.proofs.SettingsLemmas.{settings_held, settings_itself, settings_twice, unused_like}
 
 -- nothing was pushed
-abbrev pub pushes_none : (layouts : Layouts) (handles : List GcRootIndex) (most : ℕ) (s : StoreView ℕ) (t : Table ℕ) (a : Account) → Standing layouts handles s t a → Pushes layouts handles most s t a s
+abbrev pub pushes_none : (layouts : Layouts) (handles : List GcRootIndex) (most : ℕ) (s : StoreView ℕ) (t : Table ℕ) (a : Account) → Standing layouts handles s t a → PushesForValues layouts handles most s t a s
 pushes_none layouts handles most s t a standing = record {
   table = t;
   standing = standing;
@@ -43,7 +43,7 @@ pushes_none layouts handles most s t a standing = record {
 }
 
 -- more may be pushed than were
-abbrev pub pushes_more : (layouts : Layouts) (handles : List GcRootIndex) (few most : ℕ) (s : StoreView ℕ) (t : Table ℕ) (a : Account) (new : StoreView ℕ) → few ≤ most → Pushes layouts handles few s t a new → Pushes layouts handles most s t a new
+abbrev pub pushes_more : (layouts : Layouts) (handles : List GcRootIndex) (few most : ℕ) (s : StoreView ℕ) (t : Table ℕ) (a : Account) (new : StoreView ℕ) → few ≤ most → PushesForValues layouts handles few s t a new → PushesForValues layouts handles most s t a new
 pushes_more layouts handles few most s t a new below p = record {
   table = p.table;
   standing = p.standing;
@@ -55,8 +55,8 @@ pushes_more layouts handles few most s t a new below p = record {
 }
 
 -- two steps
-abbrev pub pushes_twice : (layouts : Layouts) (handles : List GcRootIndex) (m n : ℕ) (s : StoreView ℕ) (t : Table ℕ) (a : Account) (mid new : StoreView ℕ) (p : Pushes layouts handles m s t a mid) → Pushes layouts handles n mid p.table a new
-    → Pushes layouts handles (m + n) s t a new
+abbrev pub pushes_twice : (layouts : Layouts) (handles : List GcRootIndex) (m n : ℕ) (s : StoreView ℕ) (t : Table ℕ) (a : Account) (mid new : StoreView ℕ) (p : PushesForValues layouts handles m s t a mid) → PushesForValues layouts handles n mid p.table a new
+    → PushesForValues layouts handles (m + n) s t a new
 pushes_twice layouts handles m n s t a mid new p q = record {
   table = q.table;
   standing = q.standing;
@@ -69,7 +69,7 @@ pushes_twice layouts handles m n s t a mid new p q = record {
 
 module _ (layouts : Layouts) (handles : List GcRootIndex) (s new : StoreView ℕ) (t : Table ℕ) (a : Account) (standing : Standing layouts handles s t a) where
   module _ (same : IsSameStore s new) (q : Reference) (holds : HoldsAccount layouts new (push q t) a) where
-    abbrev pub pushed_one : Pushes layouts handles 1 s t a new
+    abbrev pub pushed_one : PushesForValues layouts handles 1 s t a new
     pushed_one = record {
       table = push q t;
       standing = record {
@@ -101,7 +101,7 @@ module _ (layouts : Layouts) (handles : List GcRootIndex) (s new : StoreView ℕ
       omega (arith, past, most, count)
 
   -- a 31-bit number was pushed
-  small_found : (n : ℕ) (handle : GcRootIndex) → IsSameStore s new → PushesRoot layouts t a (small n) (Ok handle) new → (p : Pushes layouts handles 1 s t a new) × NamesReference new p.table handle (small n)
+  small_found : (n : ℕ) (handle : GcRootIndex) → IsSameStore s new → PushesRoot layouts t a (small n) (Ok handle) new → (p : PushesForValues layouts handles 1 s t a new) × NamesReference new p.table handle (small n)
   small_found n handle same pushes = (pushed_one same (small n) pushes.1.1, new_named layouts s t standing.holds.place standing.holds.holds new (small n) handle pushes.1.0)
 
   small_stops : (n : ℕ) (why : RootFault) → PushesRoot layouts t a (small n) (Err why) new → StopsAtRoots 1 s (told_of_root why)
@@ -110,11 +110,11 @@ module _ (layouts : Layouts) (handles : List GcRootIndex) (s new : StoreView ℕ
   small_stops n root_fault.RootsFull pushes = full_is pushes.0
   small_stops n root_fault.Memory pushes = tt
 
-  pub found_small : (r : ImageReference) (n m : ℕ) (handle : GcRootIndex) → r ≡ image_reference.Small n → m ≡ n % 2 ^ 31 → FitsReference r → IsSameStore s new → PushesRoot layouts t a (small m) (Ok handle) new
+  pub found_small : (r : ImageReference) (n m : ℕ) (handle : GcRootIndex) → r ≡ image_reference.Small n → m ≡ n % 2 ^ 31 → FitsImageReference r → IsSameStore s new → PushesRoot layouts t a (small m) (Ok handle) new
       → FindsHandle layouts handles r s t a (Ok (Some handle)) new
   found_small r n m handle is low fits same pushes =
       subst (λ (x : ImageReference). FindsHandle layouts handles x s t a (Ok (Some handle)) new) (sym is)
-      (let below : n < 2 ^ 31 = subst FitsReference is fits in
+      (let below : n < 2 ^ 31 = subst FitsImageReference is fits in
       let number : m ≡ n = omega (arith, low, below) in
       small_found n handle same (subst (λ (k : ℕ). PushesRoot layouts t a (small k) (Ok handle) new) number pushes))
 
@@ -122,8 +122,8 @@ module _ (layouts : Layouts) (handles : List GcRootIndex) (s new : StoreView ℕ
       → FindsHandle layouts handles r s t a (Err told) new
   stopped_small r n m why told is told_is unchanged pushes =
       subst (λ (x : ImageReference). FindsHandle layouts handles x s t a (Err told) new) (sym is)
-      (subst (λ (f : LoadFault). Pushes layouts handles 0 s t a new × StopsAtRoots 1 s f) (sym told_is)
-      (subst (λ (v : StoreView ℕ). Pushes layouts handles 0 s t a v) (sym unchanged) (pushes_none layouts handles 0 s t a standing), small_stops m why pushes))
+      (subst (λ (f : LoadFault). PushesForValues layouts handles 0 s t a new × StopsAtRoots 1 s f) (sym told_is)
+      (subst (λ (v : StoreView ℕ). PushesForValues layouts handles 0 s t a v) (sym unchanged) (pushes_none layouts handles 0 s t a standing), small_stops m why pushes))
 
   pub found_null : (r : ImageReference) → r ≡ image_reference.Null → FindsHandle layouts handles r s t a (Ok None) s
   found_null r is = subst (λ (x : ImageReference). FindsHandle layouts handles x s t a (Ok None) s) (sym is) (pushes_none layouts handles 0 s t a standing, refl)
@@ -147,13 +147,13 @@ raw_stands s t class None r is = ap (reference class) is
 raw_stands s t class (Some handle) r named = record { root = r; named = named; is = refl }
 
 module _ (layouts : Layouts) (handles : List GcRootIndex) (s new : StoreView ℕ) (t : Table ℕ) (a : Account) (v : ImageValue) (class : GcClass) (r : ImageReference) (is : v ≡ value.Ref class r) where
-  pub reference_fits : FitsValue v → FitsReference r
-  reference_fits fits = subst FitsValue is fits
+  pub reference_fits : FitsImageValue v → FitsImageReference r
+  reference_fits fits = subst FitsImageValue is fits
 
-  pub found_reference : (handle : Option GcRootIndex) → FindsHandle layouts handles r s t a (Ok handle) new → FindsValue layouts handles v s t a (Ok (raw.Ref class handle)) new
+  pub found_reference : (handle : Option GcRootIndex) → FindsHandle layouts handles r s t a (Ok handle) new → FindsRawValue layouts handles v s t a (Ok (raw.Ref class handle)) new
   found_reference handle found =
-      subst (λ (x : ImageValue). FindsValue layouts handles x s t a (Ok (raw.Ref class handle)) new) (sym is)
+      subst (λ (x : ImageValue). FindsRawValue layouts handles x s t a (Ok (raw.Ref class handle)) new) (sym is)
       (found.0, raw_stands new found.0.table class handle (early_reference (length handles) r) found.1)
 
-  pub stopped_reference : (why : LoadFault) → FindsHandle layouts handles r s t a (Err why) new → FindsValue layouts handles v s t a (Err why) new
-  stopped_reference why found = subst (λ (x : ImageValue). FindsValue layouts handles x s t a (Err why) new) (sym is) found
+  pub stopped_reference : (why : LoadFault) → FindsHandle layouts handles r s t a (Err why) new → FindsRawValue layouts handles v s t a (Err why) new
+  stopped_reference why found = subst (λ (x : ImageValue). FindsRawValue layouts handles x s t a (Err why) new) (sym is) found

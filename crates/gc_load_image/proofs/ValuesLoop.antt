@@ -18,8 +18,8 @@ use Rattle.gc_store.specs.Values.{AllStand, RawStands}
 use Rattle.gc_image.specs.declared.image.ImageValue.{ImageValue}
 use Rattle.gc_load_image.specs.declared.fault.LoadFault.{LoadFault}
 use Rattle.gc_load_image.specs.declared.fault.LoadFault.TheVariants as fault
-use Rattle.gc_load_image.specs.Loads.{present_count}
-use Rattle.gc_load_image.specs.Stages.{FailedValues, FindsValue, FoundValues, Standing, StopsAtRoots, early_value}
+use Rattle.gc_load_image.specs.Loads.{value_present}
+use Rattle.gc_load_image.specs.Stages.{FailedValues, FindsRawValue, FoundValues, Standing, StopsAtRoots, early_value}
 use Rattle.gc_load_image.proofs.ValueLemmas.{pushes_more, pushes_none, pushes_twice}
 
 -- a value that stands stands where all that was named is named
@@ -61,13 +61,13 @@ module _ (layouts : Layouts) (handles : List GcRootIndex) (old : StoreView ℕ) 
   }
 
   module _ (xs : List ImageValue) (raws : List RawValue) (mid new : StoreView ℕ) (found : FoundValues layouts handles xs old t a raws mid) (v : ImageValue) where
-    pub values_more : (front : List ImageValue) (r : RawValue) → front ≡ xs ++ v ∷ [] → FindsValue layouts handles v mid found.pushes.table a (Ok r) new → FoundValues layouts handles front old t a (raws ++ r ∷ []) new
+    pub values_more : (front : List ImageValue) (r : RawValue) → front ≡ xs ++ v ∷ [] → FindsRawValue layouts handles v mid found.pushes.table a (Ok r) new → FoundValues layouts handles front old t a (raws ++ r ∷ []) new
     values_more front r is one =
-        let both = pushes_twice layouts handles (sum_by present_count xs) (present_count v) old t a mid new found.pushes one.0 in
-        let count : sum_by present_count xs + present_count v ≤ sum_by present_count (xs ++ v ∷ []) = (let sums = sum_by_push present_count xs v in omega (arith, sums)) in
+        let both = pushes_twice layouts handles (sum_by value_present xs) (value_present v) old t a mid new found.pushes one.0 in
+        let count : sum_by value_present xs + value_present v ≤ sum_by value_present (xs ++ v ∷ []) = (let sums = sum_by_push value_present xs v in omega (arith, sums)) in
         let values : map (early_value (length handles)) (xs ++ v ∷ []) ≡ map (early_value (length handles)) xs ++ early_value (length handles) v ∷ [] = map-append (early_value (length handles)) xs (v ∷ []) in
         subst (λ (vs : List ImageValue). FoundValues layouts handles vs old t a (raws ++ r ∷ []) new) (sym is) (record {
-          pushes = pushes_more layouts handles (sum_by present_count xs + present_count v) (sum_by present_count (xs ++ v ∷ [])) old t a new count both;
+          pushes = pushes_more layouts handles (sum_by value_present xs + value_present v) (sum_by value_present (xs ++ v ∷ [])) old t a new count both;
           stand = subst (AllStand new one.0.table (raws ++ r ∷ [])) (sym values)
               (all_push new one.0.table raws (map (early_value (length handles)) xs) r (early_value (length handles) v)
               (all_stay mid new found.pushes.table one.0.table one.0.stays raws (map (early_value (length handles)) xs) found.stand) one.1);
@@ -81,20 +81,20 @@ module _ (layouts : Layouts) (handles : List GcRootIndex) (old : StoreView ℕ) 
     cause_later m n whole fault.Memory few same below cause = tt
 
     -- one stopped them
-    pub values_failed : (all : List ImageValue) (why : LoadFault) → sum_by present_count (xs ++ v ∷ []) ≤ sum_by present_count all → FindsValue layouts handles v mid found.pushes.table a (Err why) new → FailedValues layouts handles all old t a why new
+    pub values_failed : (all : List ImageValue) (why : LoadFault) → sum_by value_present (xs ++ v ∷ []) ≤ sum_by value_present all → FindsRawValue layouts handles v mid found.pushes.table a (Err why) new → FailedValues layouts handles all old t a why new
     values_failed all why part one =
-        let sums = sum_by_push present_count xs v in
+        let sums = sum_by_push value_present xs v in
         record {
-          pushes = pushes_more layouts handles (sum_by present_count xs + 0) (sum_by present_count all) old t a new (omega (arith, sums, part)) (pushes_twice layouts handles (sum_by present_count xs) 0 old t a mid new found.pushes one.0);
-          cause = cause_later (sum_by present_count xs) (present_count v) (sum_by present_count all) why found.pushes.few found.pushes.same.max_scoped (omega (arith, sums, part)) one.1;
+          pushes = pushes_more layouts handles (sum_by value_present xs + 0) (sum_by value_present all) old t a new (omega (arith, sums, part)) (pushes_twice layouts handles (sum_by value_present xs) 0 old t a mid new found.pushes one.0);
+          cause = cause_later (sum_by value_present xs) (value_present v) (sum_by value_present all) why found.pushes.few found.pushes.same.max_scoped (omega (arith, sums, part)) one.1;
         }
 
     -- want of memory behind one
-    pub values_memory : (all : List ImageValue) (r : RawValue) → sum_by present_count (xs ++ v ∷ []) ≤ sum_by present_count all → FindsValue layouts handles v mid found.pushes.table a (Ok r) new → FailedValues layouts handles all old t a fault.Memory new
+    pub values_memory : (all : List ImageValue) (r : RawValue) → sum_by value_present (xs ++ v ∷ []) ≤ sum_by value_present all → FindsRawValue layouts handles v mid found.pushes.table a (Ok r) new → FailedValues layouts handles all old t a fault.Memory new
     values_memory all r part one =
-        let sums = sum_by_push present_count xs v in
+        let sums = sum_by_push value_present xs v in
         record {
-          pushes = pushes_more layouts handles (sum_by present_count xs + present_count v) (sum_by present_count all) old t a new (omega (arith, sums, part)) (pushes_twice layouts handles (sum_by present_count xs) (present_count v) old t a mid new found.pushes one.0);
+          pushes = pushes_more layouts handles (sum_by value_present xs + value_present v) (sum_by value_present all) old t a new (omega (arith, sums, part)) (pushes_twice layouts handles (sum_by value_present xs) (value_present v) old t a mid new found.pushes one.0);
           cause = tt;
         }
 
@@ -102,16 +102,16 @@ module _ (layouts : Layouts) (handles : List GcRootIndex) (old : StoreView ℕ) 
 pub front_more : {X : Type 0} (xs : List X) (i : ℕ) (x : X) → i < length xs → x ≡ get_or xs i x → take (i + 1) xs ≡ take i xs ++ x ∷ []
 front_more xs i x below is = take_more xs i x below ∙ ap (λ y. take i xs ++ y ∷ []) (sym is)
 
-pub front_part : (xs : List ImageValue) (i : ℕ) (v : ImageValue) → i < length xs → v ≡ get_or xs i v → sum_by present_count (take i xs ++ v ∷ []) ≤ sum_by present_count xs
-front_part xs i v below is = subst (λ (ys : List ImageValue). sum_by present_count ys ≤ sum_by present_count xs) (front_more xs i v below is) (sum_by-take-le present_count xs (i + 1))
+pub front_part : (xs : List ImageValue) (i : ℕ) (v : ImageValue) → i < length xs → v ≡ get_or xs i v → sum_by value_present (take i xs ++ v ∷ []) ≤ sum_by value_present xs
+front_part xs i v below is = subst (λ (ys : List ImageValue). sum_by value_present ys ≤ sum_by value_present xs) (front_more xs i v below is) (sum_by-take-le value_present xs (i + 1))
 
 -- so of what globals hold
 pub mapped_more : {X : Type 0} (f : X → ImageValue) (xs : List X) (i : ℕ) (x : X) → i < length xs → x ≡ get_or xs i x → map f (take (i + 1) xs) ≡ map f (take i xs) ++ f x ∷ []
 mapped_more f xs i x below is = ap (map f) (front_more xs i x below is) ∙ map-append f (take i xs) (x ∷ [])
 
-pub mapped_part : {X : Type 0} (f : X → ImageValue) (xs : List X) (i : ℕ) (x : X) → i < length xs → x ≡ get_or xs i x → sum_by present_count (map f (take i xs) ++ f x ∷ []) ≤ sum_by present_count (map f xs)
+pub mapped_part : {X : Type 0} (f : X → ImageValue) (xs : List X) (i : ℕ) (x : X) → i < length xs → x ≡ get_or xs i x → sum_by value_present (map f (take i xs) ++ f x ∷ []) ≤ sum_by value_present (map f xs)
 mapped_part f xs i x below is =
     let whole : map f xs ≡ map f (take (i + 1) xs) ++ map f (drop (i + 1) xs) = ap (map f) (sym (take-append-drop (i + 1) xs)) ∙ map-append f (take (i + 1) xs) (drop (i + 1) xs) in
-    let sums = ap (sum_by present_count) whole ∙ sum_by-append present_count (map f (take (i + 1) xs)) (map f (drop (i + 1) xs)) in
-    let front = ap (sum_by present_count) (mapped_more f xs i x below is) in
+    let sums = ap (sum_by value_present) whole ∙ sum_by-append value_present (map f (take (i + 1) xs)) (map f (drop (i + 1) xs)) in
+    let front = ap (sum_by value_present) (mapped_more f xs i x below is) in
     omega (arith, sums, front)

@@ -10,7 +10,7 @@ use Rattle.gc_model.specs.Allocation.{Limits, MayRefuse, Rose, asked, skipped, t
 use Rattle.gc_model.specs.Sizes.{object_size}
 use Rattle.gc_model.specs.Stores.{StoreView}
 use Rattle.gc_model.specs.SideValues.{no_side_values}
-use Rattle.gc_model.specs.Table.{Table, empty_slot, global_count}
+use Rattle.gc_model.specs.Table.{Table, null_slot, global_count}
 use Rattle.gc_policy.specs.Accounts.{Account, HoldsAccount}
 use Rattle.gc_image.specs.declared.image.GlobalLine.{GlobalLine}
 use Rattle.gc_image.specs.declared.image.ImageReference.{ImageReference}
@@ -30,23 +30,23 @@ reference_present image_reference.Null = 0
 reference_present (image_reference.Small n) = 1
 reference_present (image_reference.Object number) = 1
 
-abbrev pub present_count : ImageValue → ℕ
-present_count (value.I32 n) = 0
-present_count (value.I64 n) = 0
-present_count (value.F32 n) = 0
-present_count (value.F64 n) = 0
-present_count (value.V128 n) = 0
-present_count (value.Ref class r) = reference_present r
+abbrev pub value_present : ImageValue → ℕ
+value_present (value.I32 n) = 0
+value_present (value.I64 n) = 0
+value_present (value.F32 n) = 0
+value_present (value.F64 n) = 0
+value_present (value.V128 n) = 0
+value_present (value.Ref class r) = reference_present r
 
 abbrev pub line_count : ObjectLine → ℕ
-line_count line = sum_by present_count (line_values line)
+line_count line = sum_by value_present (line_values line)
 
 abbrev pub global_present : GlobalLine → ℕ
-global_present global = present_count global.value
+global_present global = value_present global.value
 
 -- how many references of an image aren't null
-abbrev pub reference_count : ImageParts → ℕ
-reference_count image = sum_by line_count image.objects + sum_by global_present image.globals
+abbrev pub image_reference_count : ImageParts → ℕ
+image_reference_count image = sum_by line_count image.objects + sum_by global_present image.globals
 
 -- the bytes of an object of an image, and those that it takes in whole multiples of 16
 abbrev pub line_size : Layouts → List Declaration → ObjectLine → ℕ
@@ -111,14 +111,14 @@ pub record Loaded (layouts : Layouts) (bytes : List ℕ) (n : ℕ) (new : StoreV
 abbrev pub Causes : Layouts → ℕ → List ℕ → Limits → Limits → LoadFault → Table ℕ → Type 0
 Causes layouts most bytes limits limits' fault.BadImage t = ¬ IsWell bytes
 Causes layouts most bytes limits limits' fault.TooLarge t = (well : IsWell bytes) × HasTooLarge layouts well.well.types well.image.objects
-Causes layouts most bytes limits limits' fault.RootsFull t = (well : IsWell bytes) × (most < length well.image.objects + 2 * reference_count well.image)
+Causes layouts most bytes limits limits' fault.RootsFull t = (well : IsWell bytes) × (most < length well.image.objects + 2 * image_reference_count well.image)
 Causes layouts most bytes limits limits' (fault.HeapOutOfMemory f) t =
     (well : IsWell bytes) × LacksHeap layouts well.well.types well.image.objects f.bytes_needed limits limits' t
 Causes layouts most bytes limits limits' fault.Memory t = Unit {0}
 
 -- types are the first of others
-abbrev pub IsFront : List Declaration → List Declaration → Type 0
-IsFront types all = (rest : List Declaration) × (all ≡ types ++ rest)
+abbrev pub AreFirstTypes : List Declaration → List Declaration → Type 0
+AreFirstTypes types all = (rest : List Declaration) × (all ≡ types ++ rest)
 
 -- The types that stand then: none where the bytes are no image; where memory was wanting none, or the first that the image's lines declare; all of these
 -- where an object or a root was refused.
@@ -127,7 +127,7 @@ TypesLeft bytes fault.BadImage types = types ≡ []
 TypesLeft bytes fault.TooLarge types = (well : IsWell bytes) × (types ≡ well.well.types)
 TypesLeft bytes fault.RootsFull types = (well : IsWell bytes) × (types ≡ well.well.types)
 TypesLeft bytes (fault.HeapOutOfMemory f) types = (well : IsWell bytes) × (types ≡ well.well.types)
-TypesLeft bytes fault.Memory types = (types ≡ []) ⊎ ((well : IsWell bytes) × IsFront types well.well.types)
+TypesLeft bytes fault.Memory types = (types ≡ []) ⊎ ((well : IsWell bytes) × AreFirstTypes types well.well.types)
 
 -- It wasn't loaded: the globals are null, no other root stands, and no types but the image's.
 pub record NotLoaded (layouts : Layouts) (most : ℕ) (bytes : List ℕ) (limits limits' : Limits) (why : LoadFault) (new : StoreView ℕ) : Type 0 where
@@ -135,7 +135,7 @@ pub record NotLoaded (layouts : Layouts) (most : ℕ) (bytes : List ℕ) (limits
   pub account : Account
   pub holds : HoldsAccount layouts new table account
   pub alone : HasGlobalsAlone table
-  pub unset : table.globals ≡ replicate global_count empty_slot
+  pub unset : table.globals ≡ replicate global_count null_slot
   pub types : TypesLeft bytes why table.types
   pub cause : Causes layouts most bytes limits limits' why table
 

@@ -8,11 +8,11 @@ use Rattle.gc_types.specs.Declarations.{Declaration}
 use Rattle.gc_commands.specs.declared.command.Command.{Command}
 use Rattle.gc_model.specs.Allocation.{Limits, too_large, skipped}
 use Rattle.gc_model.specs.Live.{roots_full}
-use Rattle.gc_model.specs.Sizes.{block_of}
+use Rattle.gc_model.specs.Sizes.{block_bytes}
 use Rattle.gc_model.specs.Stored.{stored, stored_in, byte_value}
 use Rattle.gc_model.specs.Stores.{StoreView}
 use Rattle.gc_model.specs.SideValues.{no_side_values}
-use Rattle.gc_model.specs.Table.{Table, Slot, empty_slot, global_count}
+use Rattle.gc_model.specs.Table.{Table, Slot, null_slot, global_count}
 use Rattle.gc_model.specs.Values.{Reference, null, small, at, Value, reference, Object, struct, array, host, exception}
 use Rattle.gc_model.specs.Words.{Placing}
 use Rattle.gc_owner.specs.declared.entry.GcClass.{GcClass}
@@ -22,8 +22,8 @@ use Rattle.gc_values.specs.declared.root.GcRootIndex.{GcRootIndex}
 use Rattle.gc_values.specs.declared.root.RawValue.{RawValue}
 use Rattle.gc_values.specs.declared.root.RootFault.{RootFault}
 use Rattle.gc_values.specs.declared.root.RootFault.TheVariants as root_fault
-use Rattle.gc_store.specs.Places.{PlacesObject, LacksPlace, WantsPlace, RefusesPlace, bytes_of}
-use Rattle.gc_store.specs.Requests.{CanPlaceStruct, CanPlaceException, CanPlaceElements, CanPlaceBytes, fields_of, exn_fields_of, element_of}
+use Rattle.gc_store.specs.Places.{PlacesObject, LacksPlace, WantsPlace, RefusesPlace, size_in_table}
+use Rattle.gc_store.specs.Requests.{CanPlaceStruct, CanPlaceException, CanPlaceElements, CanPlaceBytes, struct_fields_of, exn_fields_of, element_of}
 use Rattle.gc_store.specs.Roots.{NamesReference}
 use Rattle.gc_store.specs.Slots.{HandleStands}
 use Rattle.gc_store.specs.Values.{AllStand, RawStands}
@@ -38,11 +38,11 @@ use Rattle.gc_image.specs.Declaring.{DeclareInTurn}
 use Rattle.gc_image.specs.Images.{AreGlobals, Images}
 use Rattle.gc_image.specs.Parts.{ImageParts}
 use Rattle.gc_image.specs.Steps.{Declared}
-use Rattle.gc_image.specs.Text.{FitsValue}
+use Rattle.gc_image.specs.Text.{FitsImageValue}
 use Rattle.gc_image.specs.Well.{IsWellImage, as_object, as_value, line_values}
 use Rattle.gc_load_image.specs.declared.fault.LoadFault.{LoadFault}
 use Rattle.gc_load_image.specs.declared.fault.LoadFault.TheVariants as fault
-use Rattle.gc_load_image.specs.Loads.{HasGlobalsAlone, HasTooLarge, IsFront, KeepsSettings, LacksHeap, global_present, line_count, present_count, reference_count, reference_present}
+use Rattle.gc_load_image.specs.Loads.{HasGlobalsAlone, HasTooLarge, AreFirstTypes, KeepsSettings, LacksHeap, global_present, line_count, value_present, image_reference_count, reference_present}
 
 -- faults of the store as those of loading
 abbrev pub told_of_type : TypeFault → LoadFault
@@ -71,7 +71,7 @@ DeclaresAll commands types (Err fault.BadImage) = (all : List Declaration) → �
 DeclaresAll commands types (Err fault.TooLarge) = ⊥
 DeclaresAll commands types (Err fault.RootsFull) = ⊥
 DeclaresAll commands types (Err (fault.HeapOutOfMemory f)) = ⊥
-DeclaresAll commands types (Err fault.Memory) = (all : List Declaration) → DeclareInTurn [] commands all → IsFront types all
+DeclaresAll commands types (Err fault.Memory) = (all : List Declaration) → DeclareInTurn [] commands all → AreFirstTypes types all
 
 -- the table with these types
 abbrev pub with_types : List Declaration → Table ℕ → Table ℕ
@@ -121,10 +121,10 @@ pub record Standing (layouts : Layouts) (handles : List GcRootIndex) (s : StoreV
   pub frames : t.frames ≡ []
   pub owned : t.owned ≡ []
   pub pending : t.pending ≡ None
-  pub unset : t.globals ≡ replicate global_count empty_slot
+  pub unset : t.globals ≡ replicate global_count null_slot
 
 -- roots were pushed, at most so many
-pub record Pushes (layouts : Layouts) (handles : List GcRootIndex) (most : ℕ) (old : StoreView ℕ) (t : Table ℕ) (a : Account) (new : StoreView ℕ) : Type 0 where
+pub record PushesForValues (layouts : Layouts) (handles : List GcRootIndex) (most : ℕ) (old : StoreView ℕ) (t : Table ℕ) (a : Account) (new : StoreView ℕ) : Type 0 where
   pub table : Table ℕ
   pub standing : Standing layouts handles new table a
   pub objects : table.objects ≡ t.objects
@@ -144,23 +144,23 @@ StopsAtRoots most old fault.Memory = Unit {0}
 -- a handle was found for a reference of an object with that number
 abbrev pub FindsHandle : Layouts → List GcRootIndex → ImageReference → StoreView ℕ → Table ℕ → Account → Result (Option GcRootIndex) LoadFault → StoreView ℕ → Type 0
 FindsHandle layouts handles r old t a (Ok handle) new =
-    (p : Pushes layouts handles (reference_present r) old t a new) × HandleStands new p.table handle (early_reference (length handles) r)
-FindsHandle layouts handles r old t a (Err why) new = Pushes layouts handles 0 old t a new × StopsAtRoots (reference_present r) old why
+    (p : PushesForValues layouts handles (reference_present r) old t a new) × HandleStands new p.table handle (early_reference (length handles) r)
+FindsHandle layouts handles r old t a (Err why) new = PushesForValues layouts handles 0 old t a new × StopsAtRoots (reference_present r) old why
 
 -- so a value was made for one of an object with that number
-abbrev pub FindsValue : Layouts → List GcRootIndex → ImageValue → StoreView ℕ → Table ℕ → Account → Result RawValue LoadFault → StoreView ℕ → Type 0
-FindsValue layouts handles v old t a (Ok raw) new =
-    (p : Pushes layouts handles (present_count v) old t a new) × RawStands new p.table raw (early_value (length handles) v)
-FindsValue layouts handles v old t a (Err why) new = Pushes layouts handles 0 old t a new × StopsAtRoots (present_count v) old why
+abbrev pub FindsRawValue : Layouts → List GcRootIndex → ImageValue → StoreView ℕ → Table ℕ → Account → Result RawValue LoadFault → StoreView ℕ → Type 0
+FindsRawValue layouts handles v old t a (Ok raw) new =
+    (p : PushesForValues layouts handles (value_present v) old t a new) × RawStands new p.table raw (early_value (length handles) v)
+FindsRawValue layouts handles v old t a (Err why) new = PushesForValues layouts handles 0 old t a new × StopsAtRoots (value_present v) old why
 
 -- and for all of its values
 pub record FoundValues (layouts : Layouts) (handles : List GcRootIndex) (vs : List ImageValue) (old : StoreView ℕ) (t : Table ℕ) (a : Account) (raws : List RawValue) (new : StoreView ℕ) : Type 0 where
-  pub pushes : Pushes layouts handles (sum_by present_count vs) old t a new
+  pub pushes : PushesForValues layouts handles (sum_by value_present vs) old t a new
   pub stand : AllStand new pushes.table raws (map (early_value (length handles)) vs)
 
 pub record FailedValues (layouts : Layouts) (handles : List GcRootIndex) (vs : List ImageValue) (old : StoreView ℕ) (t : Table ℕ) (a : Account) (why : LoadFault) (new : StoreView ℕ) : Type 0 where
-  pub pushes : Pushes layouts handles (sum_by present_count vs) old t a new
-  pub cause : StopsAtRoots (sum_by present_count vs) old why
+  pub pushes : PushesForValues layouts handles (sum_by value_present vs) old t a new
+  pub cause : StopsAtRoots (sum_by value_present vs) old why
 
 -- the object of a line may be placed with these values
 abbrev pub CanPlaceLine : Layouts → StoreView ℕ → ObjectLine → List RawValue → Type 0
@@ -171,30 +171,30 @@ CanPlaceLine layouts s (object.Host n) raws = Unit {0}
 CanPlaceLine layouts s (object.Exn ty tag values) raws = CanPlaceException ℕ layouts s ty raws
 
 -- it is this one
-abbrev pub IsLineOf : StoreView ℕ → Table ℕ → ObjectLine → List RawValue → Object ℕ → Type 0
-IsLineOf s t (object.Struct ty values) raws o = (vs : List Value) × (AllStand s t raws vs × (o ≡ struct ty (stored_in (fields_of t.types ty) vs)))
-IsLineOf s t (object.Array ty values) raws o = (vs : List Value) × (AllStand s t raws vs × (o ≡ array ty (map (stored (element_of t.types ty)) vs)))
-IsLineOf s t (object.Bytes ty bytes) raws o = o ≡ array ty (map byte_value bytes)
-IsLineOf s t (object.Host n) raws o = o ≡ host n
-IsLineOf s t (object.Exn ty tag values) raws o = (vs : List Value) × (AllStand s t raws vs × (o ≡ exception ty tag (stored_in (exn_fields_of t.types ty) vs)))
+abbrev pub IsLineObject : StoreView ℕ → Table ℕ → ObjectLine → List RawValue → Object ℕ → Type 0
+IsLineObject s t (object.Struct ty values) raws o = (vs : List Value) × (AllStand s t raws vs × (o ≡ struct ty (stored_in (struct_fields_of t.types ty) vs)))
+IsLineObject s t (object.Array ty values) raws o = (vs : List Value) × (AllStand s t raws vs × (o ≡ array ty (map (stored (element_of t.types ty)) vs)))
+IsLineObject s t (object.Bytes ty bytes) raws o = o ≡ array ty (map byte_value bytes)
+IsLineObject s t (object.Host n) raws o = o ≡ host n
+IsLineObject s t (object.Exn ty tag values) raws o = (vs : List Value) × (AllStand s t raws vs × (o ≡ exception ty tag (stored_in (exn_fields_of t.types ty) vs)))
 
 -- what placing an object answers and leaves, for a table and an account that the store held
 abbrev pub PlacesLine : Layouts → Option ℕ → Object ℕ → PolicyState ℕ → Limits → Result GcRootIndex LoadFault → StoreView ℕ → Type 0
 PlacesLine layouts counter o p limits' (Ok handle) new = PlacesObject layouts counter o p limits' handle new
 PlacesLine layouts counter o p limits' (Err fault.BadImage) new = ⊥
-PlacesLine layouts counter o p limits' (Err fault.TooLarge) new = (too_large layouts (bytes_of layouts o p.table) ≡ true) × RefusesPlace layouts p limits' new
+PlacesLine layouts counter o p limits' (Err fault.TooLarge) new = (too_large layouts (size_in_table layouts o p.table) ≡ true) × RefusesPlace layouts p limits' new
 PlacesLine layouts counter o p limits' (Err fault.RootsFull) new = (roots_full p.table ≡ true) × RefusesPlace layouts p limits' new
 PlacesLine layouts counter o p limits' (Err (fault.HeapOutOfMemory f)) new = LacksPlace layouts counter o p limits' f.bytes_needed new
 PlacesLine layouts counter o p limits' (Err fault.Memory) new = WantsPlace layouts counter o p limits' new ⊎ RefusesPlace layouts p limits' new
 
 -- where an object begins in a counting heap in which the objects lie one behind the other
-abbrev pub start_of : List Declaration → List (Object ℕ) → ℕ → ℕ
-start_of types objects p = skipped + sum_by (λ (o : Object ℕ). block_of Counting types (Some o)) (take p objects)
+abbrev pub dense_start : List Declaration → List (Object ℕ) → ℕ → ℕ
+dense_start types objects p = skipped + sum_by (λ (o : Object ℕ). block_bytes Counting types (Some o)) (take p objects)
 
 -- so they lie, where places are told
 abbrev pub IsDense : Layouts → List Declaration → List (Object ℕ) → Placing → Type 0
 IsDense Null types objects places = Unit {0}
-IsDense Counting types objects places = (p word : ℕ) → (places p ≡ Some word) ↔ ((p < length objects) × (word ≡ start_of types objects p))
+IsDense Counting types objects places = (p word : ℕ) → (places p ≡ Some word) ↔ ((p < length objects) × (word ≡ dense_start types objects p))
 IsDense Copying types objects places = Unit {0}
 
 -- The first objects of an image were made, as many as there are handles.
@@ -206,7 +206,7 @@ pub record Making (layouts : Layouts) (lines : List ObjectLine) (handles : List 
   pub dense : IsDense layouts table.types table.objects account.places
 
 -- the limiter counted no less than before
-pub record Counts (limits limits' : Limits) : Type 0 where
+pub record CountsNoLess (limits limits' : Limits) : Type 0 where
   pub limit : limits'.limit ≡ limits.limit
   pub refusals : min limits.refusals (2 ^ 64 - 1) ≤ limits'.refusals
 
@@ -219,7 +219,7 @@ pub record Bare (layouts : Layouts) (s : StoreView ℕ) : Type 0 where
   pub frames : table.frames ≡ []
   pub owned : table.owned ≡ []
   pub pending : table.pending ≡ None
-  pub unset : table.globals ≡ replicate global_count empty_slot
+  pub unset : table.globals ≡ replicate global_count null_slot
 
 -- why loading the objects of lines stopped, in a step that may push so many roots
 abbrev pub StopCause : Layouts → List Declaration → List ObjectLine → Limits → Limits → ℕ → StoreView ℕ → LoadFault → Table ℕ → Type 0
@@ -236,7 +236,7 @@ pub record Stops (layouts : Layouts) (types : List Declaration) (lines : List Ob
   pub cause : StopCause layouts types lines limits limits' most old why bare.table
 
 -- a step went on: at most so many roots were pushed, and the types are as they were
-pub record Goes (most : ℕ) (old new : StoreView ℕ) : Type 0 where
+pub record LoadGoesOn (most : ℕ) (old new : StoreView ℕ) : Type 0 where
   pub few : length new.scoped ≤ length old.scoped + most
   pub same : KeepsSettings old new
   pub types : new.types ≡ old.types
@@ -244,8 +244,8 @@ pub record Goes (most : ℕ) (old new : StoreView ℕ) : Type 0 where
 -- the next object was made
 pub record MadeNext (layouts : Layouts) (lines : List ObjectLine) (handles : List GcRootIndex) (line : ObjectLine) (limits limits' : Limits) (old : StoreView ℕ) (handle : GcRootIndex) (new : StoreView ℕ) : Type 0 where
   pub making : Making layouts lines (handles ++ handle ∷ []) new
-  pub goes : Goes (1 + line_count line) old new
-  pub counts : Counts limits limits'
+  pub goes : LoadGoesOn (1 + line_count line) old new
+  pub counts : CountsNoLess limits limits'
   pub short : length (line_values line) < 2 ^ 32
 
 -- what making the next object of an image, that of a line, answers and leaves
@@ -264,13 +264,13 @@ AreShort lines = (number : ℕ) (line : ObjectLine) → slice_get lines number �
 pub record MadeAll (layouts : Layouts) (lines : List ObjectLine) (limits limits' : Limits) (old : StoreView ℕ) (handles : List GcRootIndex) (new : StoreView ℕ) : Type 0 where
   pub making : Making layouts lines handles new
   pub all : length handles ≡ length lines
-  pub goes : Goes (sum_by line_roots lines) old new
-  pub counts : Counts limits limits'
+  pub goes : LoadGoesOn (sum_by line_roots lines) old new
+  pub counts : CountsNoLess limits limits'
   pub short : AreShort lines
 
 -- each value of each line is in the range of its part
 abbrev pub AreInRange : List ObjectLine → Type 0
-AreInRange lines = (number : ℕ) (line : ObjectLine) → slice_get lines number ≡ Some line → (index : ℕ) (v : ImageValue) → slice_get (line_values line) index ≡ Some v → FitsValue v
+AreInRange lines = (number : ℕ) (line : ObjectLine) → slice_get lines number ≡ Some line → (index : ℕ) (v : ImageValue) → slice_get (line_values line) index ≡ Some v → FitsImageValue v
 
 -- the object of a line with these values; bytes and numbers of hosts are no values of it
 abbrev pub line_object : ObjectLine → List Value → Object ℕ
@@ -309,8 +309,8 @@ pub record Complete (layouts : Layouts) (lines : List ObjectLine) (handles : Lis
   pub standing : Standing layouts handles s table account
   pub objects : table.objects ≡ map as_object lines
 
-abbrev pub global_value : GlobalLine → ImageValue
-global_value global = global.value
+abbrev pub global_line_value : GlobalLine → ImageValue
+global_line_value global = global.value
 
 -- the object with a number has a value at an index
 pub record IsValueAt (lines : List ObjectLine) (number index : ℕ) : Type 0 where
@@ -345,10 +345,10 @@ abbrev pub HeldStand : StoreView ℕ → Table ℕ → List RawValue → List Gl
 HeldStand s t held globals = AllStand s t held (map (λ (g : GlobalLine). as_value g.value) globals)
 
 abbrev pub AreGlobalsInRange : List GlobalLine → Type 0
-AreGlobalsInRange globals = (index : ℕ) (g : GlobalLine) → slice_get globals index ≡ Some g → FitsValue g.value
+AreGlobalsInRange globals = (index : ℕ) (g : GlobalLine) → slice_get globals index ≡ Some g → FitsImageValue g.value
 
 -- the objects of an image were made, and its globals set
-pub record Filled (layouts : Layouts) (lines : List ObjectLine) (globals : List GlobalLine) (old : StoreView ℕ) (n : ℕ) (new : StoreView ℕ) : Type 0 where
+pub record FilledStore (layouts : Layouts) (lines : List ObjectLine) (globals : List GlobalLine) (old : StoreView ℕ) (n : ℕ) (new : StoreView ℕ) : Type 0 where
   pub table : Table ℕ
   pub account : Account
   pub holds : HoldsAccount layouts new table account
@@ -362,9 +362,9 @@ pub record Filled (layouts : Layouts) (lines : List ObjectLine) (globals : List 
   pub types : new.types ≡ old.types
   pub count : n ≡ length lines
 
-abbrev pub Fills : Layouts → List ObjectLine → List GlobalLine → Limits → Limits → StoreView ℕ → Result ℕ LoadFault → StoreView ℕ → Type 0
-Fills layouts lines globals limits limits' old (Ok n) new = Filled layouts lines globals old n new
-Fills layouts lines globals limits limits' old (Err why) new =
+abbrev pub FillsStore : Layouts → List ObjectLine → List GlobalLine → Limits → Limits → StoreView ℕ → Result ℕ LoadFault → StoreView ℕ → Type 0
+FillsStore layouts lines globals limits limits' old (Ok n) new = FilledStore layouts lines globals old n new
+FillsStore layouts lines globals limits limits' old (Err why) new =
     Stops layouts old.types lines limits limits' (sum_by line_roots lines + sum_by global_present globals) old why new
 
 -- what loading an image that is well answers and leaves
@@ -379,7 +379,7 @@ pub record LoadedImage (layouts : Layouts) (image : ImageParts) (n : ℕ) (new :
 abbrev pub ImageCauses : Layouts → ℕ → (image : ImageParts) → IsWellImage image → Limits → Limits → LoadFault → Table ℕ → Type 0
 ImageCauses layouts most image well limits limits' fault.BadImage t = ⊥
 ImageCauses layouts most image well limits limits' fault.TooLarge t = HasTooLarge layouts well.types image.objects
-ImageCauses layouts most image well limits limits' fault.RootsFull t = most < length image.objects + 2 * reference_count image
+ImageCauses layouts most image well limits limits' fault.RootsFull t = most < length image.objects + 2 * image_reference_count image
 ImageCauses layouts most image well limits limits' (fault.HeapOutOfMemory f) t = LacksHeap layouts well.types image.objects f.bytes_needed limits limits' t
 ImageCauses layouts most image well limits limits' fault.Memory t = Unit {0}
 
@@ -388,14 +388,14 @@ ImageTypesLeft all fault.BadImage types = ⊥
 ImageTypesLeft all fault.TooLarge types = types ≡ all
 ImageTypesLeft all fault.RootsFull types = types ≡ all
 ImageTypesLeft all (fault.HeapOutOfMemory f) types = types ≡ all
-ImageTypesLeft all fault.Memory types = IsFront types all
+ImageTypesLeft all fault.Memory types = AreFirstTypes types all
 
 pub record NotLoadedImage (layouts : Layouts) (most : ℕ) (image : ImageParts) (limits limits' : Limits) (why : LoadFault) (new : StoreView ℕ) : Type 0 where
   pub table : Table ℕ
   pub account : Account
   pub holds : HoldsAccount layouts new table account
   pub alone : HasGlobalsAlone table
-  pub unset : table.globals ≡ replicate global_count empty_slot
+  pub unset : table.globals ≡ replicate global_count null_slot
   pub well : IsWellImage image
   pub types : ImageTypesLeft well.types why table.types
   pub cause : ImageCauses layouts most image well limits limits' why table

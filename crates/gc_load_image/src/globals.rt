@@ -1,7 +1,7 @@
 //! The globals of an image are set.
 
 ghost use Rattle.std.specs.Prelude.{◌≡◌, ◌<◌, ◌+◌, ℕ, length, replicate};
-ghost use Rattle.gc_model.specs.Table.{Table, empty_slot, global_count};
+ghost use Rattle.gc_model.specs.Table.{Table, null_slot, global_count};
 ghost use Rattle.gc_policy.specs.Accounts.{Account, HoldsAccount};
 ghost use Rattle.gc_store.specs.Stores.{IsSameStore};
 ghost use Rattle.gc_image.specs.Well.{AreRising};
@@ -21,7 +21,7 @@ pub(crate) fn set_globals<H: GcHeap>(
     requires rising { AreRising globals.now }
     requires all { length held.now ≡ length globals.now }
     ensures sets { (t : Table ℕ) (a : Account) → HoldsAccount H.KIND store.old t a → HeldStand store.old t held.now globals.now
-        → t.globals ≡ replicate global_count empty_slot → GlobalsSet H.KIND globals.now (length globals.now) t a store.new }
+        → t.globals ≡ replicate global_count null_slot → GlobalsSet H.KIND globals.now (length globals.now) t a store.new }
     ensures same { IsSameStore store.old store.new }
 {
     for i in 0..globals.len() {

@@ -3,7 +3,7 @@
 ghost use Rattle.std.specs.Prelude.{◌≡◌, ◌<◌, ◌+◌, Some, length, slice_get};
 ghost use Rattle.gc_store.specs.Stores.{IsSameStore};
 ghost use Rattle.gc_image.specs.Well.{AreWellObjects};
-ghost use Rattle.gc_load_image.specs.Stages.{AreShort, Complete, Goes, IsLate, IsValueAt, Writing};
+ghost use Rattle.gc_load_image.specs.Stages.{AreShort, Complete, LoadGoesOn, IsLate, IsValueAt, Writing};
 
 use gc_heap::GcHeap;
 use gc_image::{ImageReference, ImageValue, ObjectLine, values_of};
@@ -20,7 +20,7 @@ pub(crate) fn write_late<H: GcHeap>(
     requires all { length handles.now ≡ length objects.now }
     requires writing { Writing H.KIND objects.now handles.now 0 0 store.old }
     ensures complete { Complete H.KIND objects.now handles.now store.new }
-    ensures goes { Goes 0 store.old store.new }
+    ensures goes { LoadGoesOn 0 store.old store.new }
     ensures same { IsSameStore store.old store.new }
 {
     for number in 0..objects.len() {
@@ -41,7 +41,7 @@ fn write_values<H: GcHeap>(
     requires all { length handles.now ≡ length objects.now }
     requires writing { Writing H.KIND objects.now handles.now number 0 store.old }
     ensures writing { Writing H.KIND objects.now handles.now (number + 1) 0 store.new }
-    ensures goes { Goes 0 store.old store.new }
+    ensures goes { LoadGoesOn 0 store.old store.new }
     ensures same { IsSameStore store.old store.new }
 {
     for index in 0..values_of(&objects[number]).len() {
@@ -83,7 +83,7 @@ fn write_value<H: GcHeap>(
     requires all { length handles.now ≡ length objects.now }
     requires writing { Writing H.KIND objects.now handles.now number index store.old }
     ensures writing { Writing H.KIND objects.now handles.now number (index + 1) store.new }
-    ensures goes { Goes 0 store.old store.new }
+    ensures goes { LoadGoesOn 0 store.old store.new }
     ensures same { IsSameStore store.old store.new }
 {
     let value = &values_of(&objects[number])[index];

@@ -1,4 +1,7 @@
 //! Heap images are loaded into a new store.
+//!
+//! `load_image` promises a table of which the bytes are an image, each object made once, or the refusal that has its
+//! cause. It asks `gc_image` what the bytes say, and the store for types, objects and globals by the store's own calls.
 #![tactic(auto)]
 
 mod declare;
@@ -7,7 +10,7 @@ mod globals;
 mod late;
 pub mod load;
 mod making;
-mod place;
+mod objects;
 mod values;
 
 pub use fault::LoadFault;

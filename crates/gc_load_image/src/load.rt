@@ -5,7 +5,7 @@ ghost use Rattle.gc_store.specs.Stores.{HoldsStart, IsSameStore};
 ghost use Rattle.gc_image.specs.Text.{FitsImage};
 ghost use Rattle.gc_image.specs.Well.{AreRising, AreWellGlobals, AreWellObjects, IsWellImage};
 ghost use Rattle.gc_load_image.specs.Loads.{KeepsSettings, Loads};
-ghost use Rattle.gc_load_image.specs.Stages.{AreGlobalsInRange, AreInRange, Fills, LoadsImage, Making};
+ghost use Rattle.gc_load_image.specs.Stages.{AreGlobalsInRange, AreInRange, FillsStore, LoadsImage, Making};
 
 use crate::declare::declare_types;
 use crate::fault::LoadFault;
@@ -86,7 +86,7 @@ fn fill<H: GcHeap, L: ResourceLimiter>(
     requires range { AreInRange objects.now }
     requires global_range { AreGlobalsInRange globals.now }
     requires making { Making H.KIND objects.now [] store.old }
-    ensures fills { Fills H.KIND objects.now globals.now (L.limits limiter.old) (L.limits limiter.new) store.old result store.new }
+    ensures fills { FillsStore H.KIND objects.now globals.now (L.limits limiter.old) (L.limits limiter.new) store.old result store.new }
     ensures same { IsSameStore store.old store.new }
 {
     let handles = make_objects(alloc, store, limiter, objects)?;

@@ -6,7 +6,7 @@ ghost use Rattle.gc_image.specs.Well.{AreWellObjects};
 ghost use Rattle.gc_load_image.specs.Stages.{AreInRange, MadeAll, MakesNext, Making, Stops, line_roots};
 
 use crate::fault::LoadFault;
-use crate::place::place_line;
+use crate::objects::allocate_line;
 use crate::values::raw_values;
 use gc_heap::GcHeap;
 use gc_image::{ObjectLine, values_of};
@@ -54,5 +54,5 @@ fn make_object<H: GcHeap, L: ResourceLimiter>(
     ensures same { IsSameStore store.old store.new }
 {
     let raws = raw_values(alloc, store, handles, values_of(line))?;
-    place_line(store, limiter, line, raws.as_slice())
+    allocate_line(store, limiter, line, raws.as_slice())
 }

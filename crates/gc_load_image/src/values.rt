@@ -4,8 +4,8 @@ ghost use Rattle.std.specs.Prelude.{◌≡◌, ℕ, Some, MatchResult, slice_get
 ghost use Rattle.gc_model.specs.Table.{Table};
 ghost use Rattle.gc_policy.specs.Accounts.{Account};
 ghost use Rattle.gc_store.specs.Stores.{IsSameStore};
-ghost use Rattle.gc_image.specs.Text.{FitsReference, FitsValue};
-ghost use Rattle.gc_load_image.specs.Stages.{FindsHandle, FailedValues, FindsValue, FoundValues, Standing, global_value};
+ghost use Rattle.gc_image.specs.Text.{FitsImageReference, FitsImageValue};
+ghost use Rattle.gc_load_image.specs.Stages.{FindsHandle, FailedValues, FindsRawValue, FoundValues, Standing, global_line_value};
 
 use crate::fault::{LoadFault, told_of_root};
 use gc_heap::GcHeap;
@@ -21,7 +21,7 @@ fn handle_of<H: GcHeap>(
     handles: &[GcRootIndex],
     reference: ImageReference,
 ) -> Result<Option<GcRootIndex>, LoadFault>
-    ensures finds { (t : Table ℕ) (a : Account) → Standing H.KIND handles.now store.old t a → FitsReference reference
+    ensures finds { (t : Table ℕ) (a : Account) → Standing H.KIND handles.now store.old t a → FitsImageReference reference
         → FindsHandle H.KIND handles.now reference store.old t a result store.new }
     ensures same { IsSameStore store.old store.new }
 {
@@ -44,8 +44,8 @@ pub(crate) fn raw_value<H: GcHeap>(
     handles: &[GcRootIndex],
     value: &ImageValue,
 ) -> Result<RawValue, LoadFault>
-    ensures finds { (t : Table ℕ) (a : Account) → Standing H.KIND handles.now store.old t a → FitsValue value.now
-        → FindsValue H.KIND handles.now value.now store.old t a result store.new }
+    ensures finds { (t : Table ℕ) (a : Account) → Standing H.KIND handles.now store.old t a → FitsImageValue value.now
+        → FindsRawValue H.KIND handles.now value.now store.old t a result store.new }
     ensures same { IsSameStore store.old store.new }
 {
     match *value {
@@ -69,7 +69,7 @@ pub(crate) fn raw_values<H: GcHeap>(
     values: &[ImageValue],
 ) -> Result<Vec<RawValue>, LoadFault>
     ensures finds { (t : Table ℕ) (a : Account) → Standing H.KIND handles.now store.old t a
-        → ((index : ℕ) (v : ImageValue) → slice_get values.now index ≡ Some v → FitsValue v)
+        → ((index : ℕ) (v : ImageValue) → slice_get values.now index ≡ Some v → FitsImageValue v)
         → MatchResult result (λ raws. FoundValues H.KIND handles.now values.now store.old t a raws.items store.new)
         (λ why. FailedValues H.KIND handles.now values.now store.old t a why store.new) }
     ensures same { IsSameStore store.old store.new }
@@ -90,9 +90,9 @@ pub(crate) fn global_values<H: GcHeap>(
     globals: &[GlobalLine],
 ) -> Result<Vec<RawValue>, LoadFault>
     ensures finds { (t : Table ℕ) (a : Account) → Standing H.KIND handles.now store.old t a
-        → ((index : ℕ) (g : GlobalLine) → slice_get globals.now index ≡ Some g → FitsValue g.value)
-        → MatchResult result (λ raws. FoundValues H.KIND handles.now (map global_value globals.now) store.old t a raws.items store.new)
-        (λ why. FailedValues H.KIND handles.now (map global_value globals.now) store.old t a why store.new) }
+        → ((index : ℕ) (g : GlobalLine) → slice_get globals.now index ≡ Some g → FitsImageValue g.value)
+        → MatchResult result (λ raws. FoundValues H.KIND handles.now (map global_line_value globals.now) store.old t a raws.items store.new)
+        (λ why. FailedValues H.KIND handles.now (map global_line_value globals.now) store.old t a why store.new) }
     ensures same { IsSameStore store.old store.new }
 {
     let mut raws = Vec::with_capacity(alloc, globals.len())?;

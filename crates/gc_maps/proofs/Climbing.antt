@@ -17,9 +17,9 @@ use Rattle.gc_maps.specs.declared.part.Opened.{Opened}
 use Rattle.gc_maps.specs.declared.part.Part.{Part}
 use Rattle.gc_maps.specs.Trees.{Tree, height, pairs, IsBalanced}
 use Rattle.gc_maps.specs.Parts.{RootIs, PartIs, RootIn}
-use Rattle.gc_maps.specs.Paths.{IsPath, Rises, IsBuilt}
+use Rattle.gc_maps.specs.Paths.{LeadsDown, Rises, IsBuilt}
 use Rattle.gc_maps.specs.Lowering.{IsJoinable, IsJoined, JoinableIn}
-use Rattle.gc_maps.specs.Ends.{Ends, Grows}
+use Rattle.gc_maps.specs.Ends.{EndsMakingNodes, MakesNodes}
 use Rattle.gc_maps.proofs.Naming.{keeps_then}
 use Rattle.gc_maps.proofs.NodeReads.{table_keeps}
 use Rattle.gc_maps.proofs.Growing.{grows_none, grows_then, grows_under, grows_within, grows_keep, same_then}
@@ -29,7 +29,7 @@ use Rattle.gc_maps.proofs.WayLemmas.{Popped, path_pop}
 
 -- So many nodes of the way were made anew.
 pub record Climbs {D : Type 0} (layouts : Layouts) (limit : Option ℕ) (kit : Kit) (t : Table D) (whole : Tree) (turns : ℕ) (frames : List Frame) (s : StoreView D) (part : Part) (entries : List (ℤ × ℤ)) : Type 0 where
-  pub leaves : Leaves layouts (λ u. Grows limit kit (3 * turns) (7 * turns) t u × Rises s u kit.node whole frames part entries) s
+  pub leaves : Leaves layouts (λ u. MakesNodes limit kit (3 * turns) (7 * turns) t u × Rises s u kit.node whole frames part entries) s
   pub few : length frames + turns ≤ 92
 
 module _ {D : Type 0} (layouts : Layouts) (limit : Option ℕ) (kit : Kit) (s0 : StoreView D) (t : Table D) (a : Account) (holds : HoldsAccount layouts s0 t a) (whole : Tree) (entries : List (ℤ × ℤ)) (balanced : IsBalanced whole)
@@ -51,7 +51,7 @@ module _ {D : Type 0} (layouts : Layouts) (limit : Option ℕ) (kit : Kit) (s0 :
   Builds s u part = IsBuilt s u kit.node part entries
 
   pub climb_done : (i : ℕ) (fs : List Frame) (s : StoreView D) (part : Part) (limits limits' : Limits) → limits'.limit ≡ limit → i ≤ 92 → fs ≡ [] → Climbs layouts limit kit t whole i fs s part entries
-      → Ends layouts s0.alloc_counter kit 276 644 t limits limits' Builds (Ok part) s
+      → EndsMakingNodes layouts s0.alloc_counter kit 276 644 t limits limits' Builds (Ok part) s
   climb_done i fs s part limits limits' stays few none climbs =
       let at = climbs.leaves in
       record {
@@ -74,7 +74,7 @@ module _ {D : Type 0} (layouts : Layouts) (limit : Option ℕ) (kit : Kit) (s0 :
     r = climbs.leaves.changed.1
 
     abbrev at : Popped s u kit.node fs f r.old whole r.before r.behind
-    at = path_pop s u kit.node fs f r.old whole r.before r.behind (subst (λ (z : List Frame). IsPath s u kit.node z r.old whole r.before r.behind) frames_is r.path)
+    at = path_pop s u kit.node fs f r.old whole r.before r.behind (subst (λ (z : List Frame). LeadsDown s u kit.node z r.old whole r.before r.behind) frames_is r.path)
 
     parent_balanced : IsBalanced at.parent
     parent_balanced = path_balanced s u kit.node fs at.parent whole at.b at.a at.path balanced
@@ -100,7 +100,7 @@ module _ {D : Type 0} (layouts : Layouts) (limit : Option ℕ) (kit : Kit) (s0 :
       module _ (s2 : StoreView D) (limits between limits' : Limits) (counts : CountsOn limits between) (stays : limits'.limit ≡ limit) where
         abbrev pub Joining : Result Part ListFault → Type 0
         Joining result = (t : Table D) (a : Account) (x y : Tree) (k v : ℤ) → HoldsAccount layouts s1 t a → IsJoinable s1 t kit.node o x k v y
-            → Ends layouts s1.alloc_counter kit 3 7 t between limits' (λ s u part. IsJoined s u kit.node part x (k, v) y) result s2
+            → EndsMakingNodes layouts s1.alloc_counter kit 3 7 t between limits' (λ s u part. IsJoined s u kit.node part x (k, v) y) result s2
 
         abbrev xl : Tree
         xl = left_of layouts kit.node s u climbs.leaves.account climbs.leaves.holds f r.old at.parent at.bs at.as' at.last parent_balanced parent_low s1 same1 other reads part r.new r.is r.balanced r.close o left_is key_is value_is right_is f.goes_left
@@ -109,11 +109,11 @@ module _ {D : Type 0} (layouts : Layouts) (limit : Option ℕ) (kit : Kit) (s0 :
         xr = right_of layouts kit.node s u climbs.leaves.account climbs.leaves.holds f r.old at.parent at.bs at.as' at.last parent_balanced parent_low s1 same1 other reads part r.new r.is r.balanced r.close o left_is key_is value_is right_is f.goes_left
 
         join_ends : (result : Result Part ListFault) → Joining result
-            → Ends layouts s1.alloc_counter kit 3 7 u between limits' (λ s u part. IsJoined s u kit.node part xl (at.last.key, at.last.value) xr) result s2
+            → EndsMakingNodes layouts s1.alloc_counter kit 3 7 u between limits' (λ s u part. IsJoined s u kit.node part xl (at.last.key, at.last.value) xr) result s2
         join_ends result joins = joins u climbs.leaves.account xl xr at.last.key at.last.value held1
             (joinable layouts kit.node s u climbs.leaves.account climbs.leaves.holds f r.old at.parent at.bs at.as' at.last parent_balanced parent_low s1 same1 other reads part r.new r.is r.balanced r.close o left_is key_is value_is right_is)
 
-        pub climb_refused : (why : ListFault) → Joining (Err why) → Ends {A = Part} layouts s0.alloc_counter kit 276 644 t limits limits' Builds (Err why) s2
+        pub climb_refused : (why : ListFault) → Joining (Err why) → EndsMakingNodes {A = Part} layouts s0.alloc_counter kit 276 644 t limits limits' Builds (Err why) s2
         climb_refused why joins =
             ends_within {A = Part} layouts s0.alloc_counter kit (3 * i + 3) (7 * i + 7) 276 644 t limits limits' s2 (omega (arith, below)) (omega (arith, below)) Builds (Err why)
             (refused_after {A = Part} {B = Part} layouts s0.alloc_counter s1.alloc_counter (same_then s0 s s1 same same1).counter kit (3 * i) (7 * i) 3 7 t u limits between limits' counts s2 (grows_under limits'.limit kit (3 * i) (7 * i) t u stays climbs.leaves.changed.0)
@@ -122,7 +122,7 @@ module _ {D : Type 0} (layouts : Layouts) (limit : Option ℕ) (kit : Kit) (s0 :
         pub climb_next : IsSameStore s1 s2 → (joined : Part) → Joining (Ok joined) → Climbs layouts limit kit t whole (i + 1) fs s2 joined entries
         climb_next same2 joined joins =
             let ends = join_ends (Ok joined) joins in
-            let grows : Grows limit kit 3 7 u ends.after = grows_under limit kit 3 7 u ends.after (sym stays) ends.changed.0 in
+            let grows : MakesNodes limit kit 3 7 u ends.after = grows_under limit kit 3 7 u ends.after (sym stays) ends.changed.0 in
             let few = climbs.few in
             let count = ap length frames_is ∙ length-append fs (f ∷ []) in
             record {

@@ -16,7 +16,7 @@ use Rattle.gc_maps.specs.declared.part.Frame.{Frame}
 use Rattle.gc_maps.specs.declared.part.Node.{Node}
 use Rattle.gc_maps.specs.Trees.{Tree, leaf, node, height, pairs}
 use Rattle.gc_maps.specs.Parts.{RootIs, NodeIs, NodeIn}
-use Rattle.gc_maps.specs.Paths.{TakesSide, IsPath, Descended, away}
+use Rattle.gc_maps.specs.Paths.{TakesSide, LeadsDown, Descended, away}
 use Rattle.gc_maps.specs.Searching.{IsSearch, toward}
 use Rattle.gc_maps.specs.Ends.{Pushes, EndsReading}
 use Rattle.gc_maps.proofs.Naming.{Keeps, held_table, root_kept}
@@ -30,7 +30,7 @@ use Rattle.gc_maps.proofs.WayLemmas.{LastStep, path_push}
 pub record Reaches {D : Type 0} (s : StoreView D) (t : Table D) (ty : ℕ) (whole : Tree) (key : ℤ) (frames : List Frame) (here : Tree) : Type 0 where
   pub before : List (ℤ × ℤ)
   pub behind : List (ℤ × ℤ)
-  pub path : IsPath s t ty frames here whole before behind
+  pub path : LeadsDown s t ty frames here whole before behind
   pub puts : (value : ℤ) → put int_cmp key value (pairs whole) ≡ before ++ (put int_cmp key value (pairs here) ++ behind)
 
 -- So many nodes were read on the way down.
@@ -47,7 +47,7 @@ module _ {D : Type 0} (s : StoreView D) (t : Table D) (s' : StoreView D) (u : Ta
   side_kept f Rest Rest' by true x k v y b a before behind takes = (root_kept s t s' u keeps ty f.other y takes.0, (by x b a takes.1.0, takes.1.1))
   side_kept f Rest Rest' by false x k v y b a before behind takes = (root_kept s t s' u keeps ty f.other x takes.0, (by y b a takes.1.0, takes.1.1))
 
-  pub path_kept : (fs : List Frame) (here whole : Tree) (b a : List (ℤ × ℤ)) → IsPath s t ty fs here whole b a → IsPath s' u ty fs here whole b a
+  pub path_kept : (fs : List Frame) (here whole : Tree) (b a : List (ℤ × ℤ)) → LeadsDown s t ty fs here whole b a → LeadsDown s' u ty fs here whole b a
   path_kept [] here whole b a path = path
   path_kept (f ∷ fs) here whole b a path = record {
     left = path.left;
@@ -61,7 +61,7 @@ module _ {D : Type 0} (s : StoreView D) (t : Table D) (s' : StoreView D) (u : Ta
     value_fits = path.value_fits;
     b = path.b;
     a = path.a;
-    side = side_kept f (IsPath s t ty fs here) (IsPath s' u ty fs here) (λ child b' a' rest. path_kept fs here child b' a' rest) f.goes_left path.left path.key path.value path.right path.b path.a b a path.side;
+    side = side_kept f (LeadsDown s t ty fs here) (LeadsDown s' u ty fs here) (λ child b' a' rest. path_kept fs here child b' a' rest) f.goes_left path.left path.key path.value path.right path.b path.a b a path.side;
   }
 
 -- what a key is put into, where it is compared with that of a node
@@ -210,7 +210,7 @@ module _ {D : Type 0} (layouts : Layouts) (t : Table D) (ty : ℕ) (tree : Tree)
 
             module _ (f : Frame) (goes : f.goes_left ≡ is_lt o) (key_is : FitsSigned w64 read.key → f.key ≡ read.key) (value_is : FitsSigned w64 read.value → f.value ≡ read.value) (other_is : f.other ≡ away read o) where
               step_of : (p : Ordering) → f.goes_left ≡ is_lt p → f.other ≡ away read p → is_eq p ≡ false → (u1 : Table D) (x : Tree) (k v : ℤ) (y : Tree) → NodeIs s1 u1 ty read x k v y
-                  → (here : Tree) (bs as' : List (ℤ × ℤ)) → TakesSide s1 u1 ty f (is_lt p) x k v y (IsPath s1 u1 ty [] here) [] [] bs as' → LastStep s1 u1 ty f here (node x k v y) bs as'
+                  → (here : Tree) (bs as' : List (ℤ × ℤ)) → TakesSide s1 u1 ty f (is_lt p) x k v y (LeadsDown s1 u1 ty [] here) [] [] bs as' → LastStep s1 u1 ty f here (node x k v y) bs as'
               step_of p goes_p other_p other u1 x k v y at here bs as' side = record {
                 left = x;
                 key = k;
@@ -223,7 +223,7 @@ module _ {D : Type 0} (layouts : Layouts) (t : Table D) (ty : ℕ) (tree : Tree)
                 value_fits = at.value_fits;
                 b = [];
                 a = [];
-                side = subst (λ (b : Bool). TakesSide s1 u1 ty f b x k v y (IsPath s1 u1 ty [] here) [] [] bs as') (sym goes_p) side;
+                side = subst (λ (b : Bool). TakesSide s1 u1 ty f b x k v y (LeadsDown s1 u1 ty [] here) [] [] bs as') (sym goes_p) side;
               }
 
               further : (p : Ordering) → p ≡ int_cmp key read.key → f.goes_left ≡ is_lt p → f.other ≡ away read p → is_eq p ≡ false → (part : Tree) (u : Table D) (b : Account) → HoldsAccount layouts s u b → RootIs s u ty (Some h) part

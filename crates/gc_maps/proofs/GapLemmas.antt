@@ -12,7 +12,7 @@ use Rattle.gc_maps.specs.declared.part.Node.{Node}
 use Rattle.gc_maps.specs.declared.part.Part.{Part}
 use Rattle.gc_maps.specs.Trees.{Tree, leaf, node, height, pairs, AreLevel, IsBalanced}
 use Rattle.gc_maps.specs.Parts.{RootIs, PartIs, RootIn}
-use Rattle.gc_maps.specs.Paths.{TakesSide, IsPath, Descended}
+use Rattle.gc_maps.specs.Paths.{TakesSide, LeadsDown, Descended}
 use Rattle.gc_maps.specs.Gaps.{others, Closes}
 use Rattle.gc_maps.specs.Searching.{IsSearch}
 use Rattle.gc_maps.specs.Ends.{EndsReading}
@@ -28,20 +28,20 @@ module _ {D : Type 0} (s : StoreView D) (t : Table D) (ty : ℕ) where
   -- a tree in which frames lead to another part, as high as the one that they lead to here
   pub record Swapped (fs : List Frame) (other whole : Tree) (b a : List (ℤ × ℤ)) : Type 0 where
     pub tree : Tree
-    pub path : IsPath s t ty fs other tree b a
+    pub path : LeadsDown s t ty fs other tree b a
     pub high : height tree ≡ height whole
     pub balanced : IsBalanced whole → IsBalanced tree
 
   module _ (here other : Tree) (same : height other ≡ height here) (other_balanced : IsBalanced other) where
-    module _ (fs : List Frame) (f : Frame) (less : (child : Tree) (b a : List (ℤ × ℤ)) → IsPath s t ty fs here child b a → Swapped fs other child b a) (whole : Tree) (before behind : List (ℤ × ℤ))
-        (path : IsPath s t ty (f ∷ fs) here whole before behind) where
+    module _ (fs : List Frame) (f : Frame) (less : (child : Tree) (b a : List (ℤ × ℤ)) → LeadsDown s t ty fs here child b a → Swapped fs other child b a) (whole : Tree) (before behind : List (ℤ × ℤ))
+        (path : LeadsDown s t ty (f ∷ fs) here whole before behind) where
       balanced_here : IsBalanced whole → IsBalanced (node path.left path.key path.value path.right)
       balanced_here balanced = subst IsBalanced path.is balanced
 
       abbrev Side : Bool → Tree → Tree → Type 0
-      Side side l r = TakesSide s t ty f side l path.key path.value r (IsPath s t ty fs other) path.b path.a before behind
+      Side side l r = TakesSide s t ty f side l path.key path.value r (LeadsDown s t ty fs other) path.b path.a before behind
 
-      led : (l r : Tree) → Side f.goes_left l r → IsPath s t ty (f ∷ fs) other (node l path.key path.value r) before behind
+      led : (l r : Tree) → Side f.goes_left l r → LeadsDown s t ty (f ∷ fs) other (node l path.key path.value r) before behind
       led l r side = record {
         left = l;
         key = path.key;
@@ -57,7 +57,7 @@ module _ {D : Type 0} (s : StoreView D) (t : Table D) (ty : ℕ) where
         side = side;
       }
 
-      swap_side : (side : Bool) → f.goes_left ≡ side → TakesSide s t ty f side path.left path.key path.value path.right (IsPath s t ty fs here) path.b path.a before behind → Swapped (f ∷ fs) other whole before behind
+      swap_side : (side : Bool) → f.goes_left ≡ side → TakesSide s t ty f side path.left path.key path.value path.right (LeadsDown s t ty fs here) path.b path.a before behind → Swapped (f ∷ fs) other whole before behind
       swap_side true e takes =
           let p = less path.left path.b path.a takes.1.0 in
           record {
@@ -79,7 +79,7 @@ module _ {D : Type 0} (s : StoreView D) (t : Table D) (ty : ℕ) where
                 record { level = subst (λ (n : ℕ). AreLevel (height path.left) n) (sym p.high) at.level; in_left = at.in_left; in_right = p.balanced at.in_right };
           }
 
-    pub path_swap : (fs : List Frame) (whole : Tree) (b a : List (ℤ × ℤ)) → IsPath s t ty fs here whole b a → Swapped fs other whole b a
+    pub path_swap : (fs : List Frame) (whole : Tree) (b a : List (ℤ × ℤ)) → LeadsDown s t ty fs here whole b a → Swapped fs other whole b a
     path_swap [] whole b a path = record { tree = other; path = (refl, path.1); high = same ∙ sym (ap height path.0); balanced = λ w. other_balanced }
     path_swap (f ∷ fs) whole b a path = swap_side fs f (λ child b' a' rest. path_swap fs child b' a' rest) whole b a path f.goes_left refl path.side
 

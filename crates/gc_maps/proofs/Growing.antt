@@ -11,7 +11,7 @@ use Rattle.gc_lists.specs.declared.kit.Kit.{Kit}
 use Rattle.gc_lists.specs.Cells.{IsOfKit}
 use Rattle.gc_lists.specs.Frames.{unchanged}
 use Rattle.gc_lists.proofs.Pages.{within_then}
-use Rattle.gc_maps.specs.Ends.{Pushes, Grows}
+use Rattle.gc_maps.specs.Ends.{Pushes, MakesNodes}
 use Rattle.gc_maps.proofs.Naming.{Keeps, names_more}
 
 module _ {D : Type 0} where
@@ -51,7 +51,7 @@ module _ {D : Type 0} where
   pub none_of_kit : (kit : Kit) → All (IsOfKit {D = D} kit) []
   none_of_kit kit k d below = absurd (omega (arith, below))
 
-  pub pushes_grow : {limit : Option ℕ} (kit : Kit) (most : ℕ) (t u : Table D) → Pushes most t u → Grows limit kit 0 most t u
+  pub pushes_grow : {limit : Option ℕ} (kit : Kit) (most : ℕ) (t u : Table D) → Pushes most t u → MakesNodes limit kit 0 most t u
   pushes_grow kit most t u pushes = record {
     made = [];
     of_kit = none_of_kit kit;
@@ -64,7 +64,7 @@ module _ {D : Type 0} where
     pages = unchanged (ap (λ (w : Table D). w.made) pushes.rest) (ap (λ (w : Table D). w.pages) pushes.rest);
   }
 
-  pub grows_none : {limit : Option ℕ} (kit : Kit) (nodes most : ℕ) (t : Table D) → Grows limit kit nodes most t t
+  pub grows_none : {limit : Option ℕ} (kit : Kit) (nodes most : ℕ) (t : Table D) → MakesNodes limit kit nodes most t t
   grows_none kit nodes most t = record {
     made = [];
     of_kit = none_of_kit kit;
@@ -76,7 +76,7 @@ module _ {D : Type 0} where
     pages = unchanged refl refl;
   }
 
-  pub grows_then : {limit : Option ℕ} (kit : Kit) (a b m n : ℕ) (t u v : Table D) → Grows limit kit a m t u → Grows limit kit b n u v → Grows limit kit (a + b) (m + n) t v
+  pub grows_then : {limit : Option ℕ} (kit : Kit) (a b m n : ℕ) (t u v : Table D) → MakesNodes limit kit a m t u → MakesNodes limit kit b n u v → MakesNodes limit kit (a + b) (m + n) t v
   grows_then {limit} kit a b m n t u v first second =
       let p = first.few in let q = second.few in let e = length-append first.scoped second.scoped in
       let x = first.few_made in let y = second.few_made in let z = length-append first.made second.made in
@@ -92,16 +92,16 @@ module _ {D : Type 0} where
         pages = within_then limit t u v (ap (λ (w : Table D). w.first) first.rest) first.pages second.pages;
       }
 
-  pub grows_within : {limit : Option ℕ} (kit : Kit) (a b m n : ℕ) (t u : Table D) → a ≤ b → m ≤ n → Grows limit kit a m t u → Grows limit kit b n t u
+  pub grows_within : {limit : Option ℕ} (kit : Kit) (a b m n : ℕ) (t u : Table D) → a ≤ b → m ≤ n → MakesNodes limit kit a m t u → MakesNodes limit kit b n t u
   grows_within kit a b m n t u below few grows =
       let x = grows.few_made in let y = grows.few in
       record { made = grows.made; of_kit = grows.of_kit; few_made = omega (arith, x, below); scoped = grows.scoped; few = omega (arith, y, few); pushes = grows.pushes; rest = grows.rest; pages = grows.pages }
 
   -- the same under what is the same limit
-  pub grows_under : {limit : Option ℕ} (limit' : Option ℕ) (kit : Kit) (nodes most : ℕ) (t u : Table D) → limit' ≡ limit → Grows limit kit nodes most t u → Grows limit' kit nodes most t u
-  grows_under {limit} limit' kit nodes most t u same grows = subst (λ (l : Option ℕ). Grows l kit nodes most t u) (sym same) grows
+  pub grows_under : {limit : Option ℕ} (limit' : Option ℕ) (kit : Kit) (nodes most : ℕ) (t u : Table D) → limit' ≡ limit → MakesNodes limit kit nodes most t u → MakesNodes limit' kit nodes most t u
+  grows_under {limit} limit' kit nodes most t u same grows = subst (λ (l : Option ℕ). MakesNodes l kit nodes most t u) (sym same) grows
 
-  pub grows_keep : {limit : Option ℕ} (kit : Kit) (nodes most : ℕ) (s : StoreView D) (t : Table D) (s' : StoreView D) (u : Table D) → IsSameStore s s' → Grows limit kit nodes most t u → Keeps s t s' u
+  pub grows_keep : {limit : Option ℕ} (kit : Kit) (nodes most : ℕ) (s : StoreView D) (t : Table D) (s' : StoreView D) (u : Table D) → IsSameStore s s' → MakesNodes limit kit nodes most t u → Keeps s t s' u
   grows_keep kit nodes most s t s' u same grows =
       subst (λ (w : Table D). Keeps s t s' w) (sym grows.rest) (names_more s t s' same grows.made grows.scoped grows.pushes u.made u.pages)
 

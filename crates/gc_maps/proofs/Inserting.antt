@@ -21,7 +21,7 @@ use Rattle.gc_lists.specs.declared.kit.Kit.{Kit}
 use Rattle.gc_lists.specs.Answers.{AnswersVersion, KeepsRoot}
 use Rattle.gc_lists.specs.Frames.{ChangesObjects, KeepsLimit, Leaves, most_objects}
 use Rattle.gc_lists.specs.Kits.{IsNodeType}
-use Rattle.gc_lists.specs.Refusals.{LacksRoots}
+use Rattle.gc_lists.specs.Refusals.{LacksCallRoots}
 use Rattle.gc_lists.specs.Versions.{is_version_of}
 use Rattle.gc_lists.proofs.Scopes.{next_owned}
 use Rattle.gc_lists.proofs.Limiting.{counts_same, lacks_limit}
@@ -33,7 +33,7 @@ use Rattle.gc_maps.specs.Trees.{Tree}
 use Rattle.gc_maps.specs.Maps.{IntMap, MapOfStands}
 use Rattle.gc_maps.specs.Parts.{RootIs}
 use Rattle.gc_maps.specs.Paths.{SearchOfIn, IsBuilt}
-use Rattle.gc_maps.specs.Ends.{Grows, Ends, LacksNode}
+use Rattle.gc_maps.specs.Ends.{MakesNodes, EndsMakingNodes, LacksNode}
 use Rattle.gc_maps.specs.Answers.{AnswersMap, AreEntries}
 use Rattle.gc_maps.specs.Gaps.{others}
 use Rattle.gc_maps.proofs.Naming.{held_table}
@@ -55,7 +55,7 @@ map_of_in layouts s ty version of stands own =
     }
 
 module _ {D : Type 0} (limit : Option ℕ) (kit : Kit) (t : Table D) where
-  pub grows_left : (n m : ℕ) (u : Table D) → n ≤ most_objects → Grows limit kit n m t u → ChangesObjects limit kit most_objects t t.owned (leave (length t.scoped) u)
+  pub grows_left : (n m : ℕ) (u : Table D) → n ≤ most_objects → MakesNodes limit kit n m t u → ChangesObjects limit kit most_objects t t.owned (leave (length t.scoped) u)
   grows_left n m u below grows = let few = grows.few_made in record {
     made = grows.made;
     few = omega (arith, few, below);
@@ -73,7 +73,7 @@ module _ {D : Type 0} (limit : Option ℕ) (kit : Kit) (t : Table D) where
     pages = same_pages limit t u (leave (length t.scoped) u) refl refl grows.pages;
   }
 
-  pub grows_owned : (n m : ℕ) (u : Table D) (r : Reference) → n ≤ most_objects → Grows limit kit n m t u → ChangesObjects limit kit most_objects t (own r t).owned (leave (length t.scoped) (own r u))
+  pub grows_owned : (n m : ℕ) (u : Table D) (r : Reference) → n ≤ most_objects → MakesNodes limit kit n m t u → ChangesObjects limit kit most_objects t (own r t).owned (leave (length t.scoped) (own r u))
   grows_owned n m u r below grows = let few = grows.few_made in record {
     made = grows.made;
     few = omega (arith, few, below);
@@ -92,16 +92,16 @@ module _ {D : Type 0} (limit : Option ℕ) (kit : Kit) (t : Table D) where
     pages = same_pages limit t u (leave (length t.scoped) (own r u)) refl refl grows.pages;
   }
 
-  full_owned : (n m : ℕ) (u : Table D) → Grows limit kit n m t u → owned_full u ≡ true → owned_full t ≡ true
+  full_owned : (n m : ℕ) (u : Table D) → MakesNodes limit kit n m t u → owned_full u ≡ true → owned_full t ≡ true
   full_owned n m u grows full = subst (λ (w : Table D). owned_full w ≡ true) grows.rest full
 
-  lacks_grown : (n m : ℕ) (u : Table D) → m < most_objects → Grows limit kit n m t u → roots_full u ≡ true → LacksRoots t
+  lacks_grown : (n m : ℕ) (u : Table D) → m < most_objects → MakesNodes limit kit n m t u → roots_full u ≡ true → LacksCallRoots t
   lacks_grown n m u below grows full =
       lacks_roots t m (record t { scoped = t.scoped ++ grows.scoped; pushes = t.pushes ++ grows.pushes }) below
       (record { scoped = grows.scoped; few = grows.few; pushes = grows.pushes; rest = refl }) (subst (λ (w : Table D). roots_full w ≡ true) grows.rest full)
 
   -- the heap got pages
-  grows_pages : (n m : ℕ) (u u' : Table D) (made : Bool) (pages : ℕ) → u' ≡ record u { made = made; pages = pages } → KeepsLimit limit u u' → Grows limit kit n m t u → Grows limit kit n m t u'
+  grows_pages : (n m : ℕ) (u u' : Table D) (made : Bool) (pages : ℕ) → u' ≡ record u { made = made; pages = pages } → KeepsLimit limit u u' → MakesNodes limit kit n m t u → MakesNodes limit kit n m t u'
   grows_pages n m u u' made pages is keeps grows = record {
     made = grows.made;
     of_kit = grows.of_kit;
@@ -114,7 +114,7 @@ module _ {D : Type 0} (limit : Option ℕ) (kit : Kit) (t : Table D) where
     pages = within_then limit t u u' (ap (λ (w : Table D). w.first) grows.rest) grows.pages keeps;
   }
 
-  lacks_pages : (n m : ℕ) (layouts : Layouts) (known : Option ℕ) (places : _) (o : Object D) (u u' : Table D) → LacksMemory layouts known places o u u' → KeepsLimit limit u u' → Grows limit kit n m t u → Grows limit kit n m t u'
+  lacks_pages : (n m : ℕ) (layouts : Layouts) (known : Option ℕ) (places : _) (o : Object D) (u u' : Table D) → LacksMemory layouts known places o u u' → KeepsLimit limit u u' → MakesNodes limit kit n m t u → MakesNodes limit kit n m t u'
   lacks_pages n m layouts known places o u u' (no_heap refused is) keeps grows = grows_pages n m u u' u.made u.pages is keeps grows
   lacks_pages n m layouts known places o u u' (no_room may refused lacks is) keeps grows = grows_pages n m u u' true (make_heap u).pages is keeps grows
 
@@ -132,7 +132,7 @@ module _ {D : Type 0} (layouts : Layouts) (counter : Option ℕ) (kit : Kit) (no
 
   -- the scope was left
   module _ (left : (u : Table D) (b : Account) → HoldsAccount layouts mid u b → HoldsAccount layouts new (leave (length t.scoped) u) b) where
-    leaves_objects : (u : Table D) (b : Account) → HoldsAccount layouts mid u b → Grows limits'.limit kit nodes most t u → Leaves layouts (ChangesObjects limits'.limit kit most_objects t t.owned) new
+    leaves_objects : (u : Table D) (b : Account) → HoldsAccount layouts mid u b → MakesNodes limits'.limit kit nodes most t u → Leaves layouts (ChangesObjects limits'.limit kit most_objects t t.owned) new
     leaves_objects u b holds grows = record { after = leave (length t.scoped) u; account = b; holds = left u b holds; changed = grows_left limits'.limit kit t nodes most u few grows }
 
     -- the limiter tells the same limit after the refusal
@@ -141,7 +141,7 @@ module _ {D : Type 0} (layouts : Layouts) (counter : Option ℕ) (kit : Kit) (no
         (sym (lacks_limit layouts counter lacks.object lacks.before limits' _ mid lacks.lacks))
         (lacks_within lacks.before.limits.limit lacks.before.table lacks.lacks.after.table layouts _ lacks.object lacks.lacks.lacks)
 
-    pub map_refused : (f : ListFault) → Ends {A = Part} layouts counter kit nodes most t limits limits' Built (Err f) mid → AnswersMap layouts counter kit m t limits limits' (Err f) new
+    pub map_refused : (f : ListFault) → EndsMakingNodes {A = Part} layouts counter kit nodes most t limits limits' Built (Err f) mid → AnswersMap layouts counter kit m t limits limits' (Err f) new
     map_refused fault.WrongStore ends = ends
     map_refused fault.RootsFull ends = (inr (lacks_grown limits'.limit kit t nodes most ends.after low ends.changed.0 ends.changed.1), leaves_objects ends.after ends.account ends.holds ends.changed.0)
     map_refused (fault.HeapOutOfMemory f) ends = (
@@ -169,7 +169,7 @@ module _ {D : Type 0} (layouts : Layouts) (counter : Option ℕ) (kit : Kit) (no
     none_at : (u : Table D) (root : Option GcRootIndex) (tree : Tree) → root ≡ None → RootIs mid u kit.node root tree → RootIs mid u kit.node None tree
     none_at u root tree none is = subst (λ (r : Option GcRootIndex). RootIs mid u kit.node r tree) none is
 
-    pub map_empty : (part : Part) → part.root ≡ None → Ends layouts counter kit nodes most t limits limits' Built (Ok part) mid → (map : HeapMap) → map.root ≡ None → AnswersMap layouts counter kit m t limits limits' (Ok map) new
+    pub map_empty : (part : Part) → part.root ≡ None → EndsMakingNodes layouts counter kit nodes most t limits limits' Built (Ok part) mid → (map : HeapMap) → map.root ≡ None → AnswersMap layouts counter kit m t limits limits' (Ok map) new
     map_empty part none ends map empty =
         let b = ends.changed.1 in
         let root = none_at ends.after part.root b.tree none b.is.root in
@@ -183,7 +183,7 @@ module _ {D : Type 0} (layouts : Layouts) (counter : Option ℕ) (kit : Kit) (no
         })
 
   -- an owned root was made, or not
-  module _ (part : Part) (root : GcRootIndex) (there : part.root ≡ Some root) (ends : Ends layouts counter kit nodes most t limits limits' Built (Ok part) mid) where
+  module _ (part : Part) (root : GcRootIndex) (there : part.root ≡ Some root) (ends : EndsMakingNodes layouts counter kit nodes most t limits limits' Built (Ok part) mid) where
     abbrev pub is_root : RootIs mid ends.after kit.node (Some root) ends.changed.1.tree
     is_root = subst (λ (r : Option GcRootIndex). RootIs mid ends.after kit.node r ends.changed.1.tree) there ends.changed.1.is.root
 
@@ -216,18 +216,18 @@ module _ {D : Type 0} (layouts : Layouts) (counter : Option ℕ) (kit : Kit) (no
 -- a key and a value that were passed on are those that were put, and the entries are the map's
 pub as_put : {D : Type 0} (layouts : Layouts) (counter : Option ℕ) (kit : Kit) (t : Table D) (limits limits' : Limits) (m : IntMap) (key value : ℤ) (es : List (ℤ × ℤ)) → finite.entries m ≡ es → SFits w64 key → SFits w64 value
     → (result : Result Part ListFault) (new : StoreView D)
-    → Ends layouts counter kit 277 829 t limits limits' (λ s u part. IsBuilt s u kit.node part (put int_cmp (to_z w64 (of_z w64 key)) (to_z w64 (of_z w64 value)) es)) result new
-    → Ends layouts counter kit 277 829 t limits limits' (λ s u part. IsBuilt s u kit.node part (finite.entries (finite.insert m key value))) result new
+    → EndsMakingNodes layouts counter kit 277 829 t limits limits' (λ s u part. IsBuilt s u kit.node part (put int_cmp (to_z w64 (of_z w64 key)) (to_z w64 (of_z w64 value)) es)) result new
+    → EndsMakingNodes layouts counter kit 277 829 t limits limits' (λ s u part. IsBuilt s u kit.node part (finite.entries (finite.insert m key value))) result new
 as_put layouts counter kit t limits limits' m key value es is fits_k fits_v result new ends =
-    subst (λ (xs : List (ℤ × ℤ)). Ends layouts counter kit 277 829 t limits limits' (λ s u part. IsBuilt s u kit.node part xs) result new) (entries_put m key value es is)
-    (subst (λ (i : ℤ). Ends layouts counter kit 277 829 t limits limits' (λ s u part. IsBuilt s u kit.node part (put int_cmp i value es)) result new) (to_z-of_z w64 key fits_k)
-    (subst (λ (n : ℤ). Ends layouts counter kit 277 829 t limits limits' (λ s u part. IsBuilt s u kit.node part (put int_cmp (to_z w64 (of_z w64 key)) n es)) result new) (to_z-of_z w64 value fits_v) ends))
+    subst (λ (xs : List (ℤ × ℤ)). EndsMakingNodes layouts counter kit 277 829 t limits limits' (λ s u part. IsBuilt s u kit.node part xs) result new) (entries_put m key value es is)
+    (subst (λ (i : ℤ). EndsMakingNodes layouts counter kit 277 829 t limits limits' (λ s u part. IsBuilt s u kit.node part (put int_cmp i value es)) result new) (to_z-of_z w64 key fits_k)
+    (subst (λ (n : ℤ). EndsMakingNodes layouts counter kit 277 829 t limits limits' (λ s u part. IsBuilt s u kit.node part (put int_cmp (to_z w64 (of_z w64 key)) n es)) result new) (to_z-of_z w64 value fits_v) ends))
 
 -- the same of a key that was taken out
 pub as_cut : {D : Type 0} (layouts : Layouts) (counter : Option ℕ) (kit : Kit) (t : Table D) (limits limits' : Limits) (m : IntMap) (key : ℤ) (es : List (ℤ × ℤ)) → finite.entries m ≡ es → SFits w64 key
     → (result : Result Part ListFault) (new : StoreView D)
-    → Ends layouts counter kit 276 1012 t limits limits' (λ s u part. IsBuilt s u kit.node part (others (to_z w64 (of_z w64 key)) es)) result new
-    → Ends layouts counter kit 276 1012 t limits limits' (λ s u part. IsBuilt s u kit.node part (finite.entries (finite.remove m key))) result new
+    → EndsMakingNodes layouts counter kit 276 1012 t limits limits' (λ s u part. IsBuilt s u kit.node part (others (to_z w64 (of_z w64 key)) es)) result new
+    → EndsMakingNodes layouts counter kit 276 1012 t limits limits' (λ s u part. IsBuilt s u kit.node part (finite.entries (finite.remove m key))) result new
 as_cut layouts counter kit t limits limits' m key es is fits result new ends =
-    subst (λ (xs : List (ℤ × ℤ)). Ends layouts counter kit 276 1012 t limits limits' (λ s u part. IsBuilt s u kit.node part xs) result new) (entries_cut m key es is)
-    (subst (λ (i : ℤ). Ends layouts counter kit 276 1012 t limits limits' (λ s u part. IsBuilt s u kit.node part (others i es)) result new) (to_z-of_z w64 key fits) ends)
+    subst (λ (xs : List (ℤ × ℤ)). EndsMakingNodes layouts counter kit 276 1012 t limits limits' (λ s u part. IsBuilt s u kit.node part xs) result new) (entries_cut m key es is)
+    (subst (λ (i : ℤ). EndsMakingNodes layouts counter kit 276 1012 t limits limits' (λ s u part. IsBuilt s u kit.node part (others i es)) result new) (to_z-of_z w64 key fits) ends)

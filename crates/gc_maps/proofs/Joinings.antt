@@ -14,7 +14,7 @@ use Rattle.gc_maps.specs.Trees.{Tree, height}
 use Rattle.gc_maps.specs.Parts.{RootIs, PartIs, node_of}
 use Rattle.gc_maps.specs.Makes.{IsLow}
 use Rattle.gc_maps.specs.Lowering.{IsHighLeft, IsHighRight, IsJoined, IsJoinable}
-use Rattle.gc_maps.specs.Ends.{Ends}
+use Rattle.gc_maps.specs.Ends.{EndsMakingNodes}
 use Rattle.gc_maps.proofs.Steps.{ends_within, ends_map}
 use Rattle.gc_maps.proofs.Shapes.{level}
 
@@ -61,8 +61,8 @@ module _ {D : Type 0} (s : StoreView D) (t : Table D) (ty : ℕ) (opened : Opene
       }
 
   pub is_level : (layouts : Layouts) (kit : Kit) (a : Account) (limits limits' : Limits) (new : StoreView D) (result : Result Part ListFault) (one two : Bool) → ty ≡ kit.node → Tested opened.left opened.right one → Tested opened.right opened.left two → one ≡ false → two ≡ false
-      → HoldsAccount layouts s t a → ((made : Ends layouts s.alloc_counter kit 1 1 t limits limits' (λ s' u part. PartIs s' u ty part (node_of x k v y)) result new)
-      → Ends layouts s.alloc_counter kit 3 7 t limits limits' (λ s' u part. IsJoined s' u ty part x (k, v) y) result new)
+      → HoldsAccount layouts s t a → ((made : EndsMakingNodes layouts s.alloc_counter kit 1 1 t limits limits' (λ s' u part. PartIs s' u ty part (node_of x k v y)) result new)
+      → EndsMakingNodes layouts s.alloc_counter kit 3 7 t limits limits' (λ s' u part. IsJoined s' u ty part x (k, v) y) result new)
   is_level layouts kit a limits limits' new result one two same tested_one tested_two off_one off_two holds made =
       let p = ltb-false (height y + 1) (height x) (sym (left_test one tested_one) ∙ off_one) in
       let q = ltb-false (height x + 1) (height y) (sym (right_test two tested_two) ∙ off_two) in

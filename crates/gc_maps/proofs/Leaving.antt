@@ -11,8 +11,8 @@ use Rattle.gc_policy.specs.Accounts.{Account, HoldsAccount}
 use Rattle.gc_values.specs.declared.root.GcRootIndex.{GcRootIndex}
 use Rattle.gc_lists.specs.declared.fault.ListFault.{ListFault}
 use Rattle.gc_lists.specs.declared.fault.ListFault.TheVariants as fault
-use Rattle.gc_lists.specs.Frames.{ChangesRoots, Leaves, most_objects}
-use Rattle.gc_lists.specs.Refusals.{LacksRoots}
+use Rattle.gc_lists.specs.Frames.{ChangesOwned, Leaves, most_objects}
+use Rattle.gc_lists.specs.Refusals.{LacksCallRoots}
 use Rattle.gc_lists.specs.Versions.{is_version_of, VersionNames}
 use Rattle.gc_model.specs.Values.{Reference}
 use Rattle.gc_maps.specs.Trees.{Tree, height, pairs}
@@ -32,8 +32,8 @@ or_cases true b e = inl refl
 or_cases false b e = inr e
 
 module _ {D : Type 0} (t : Table D) where
-  pub pushes_left : (most : ℕ) (u : Table D) → Pushes most t u → ChangesRoots t t.owned (leave (length t.scoped) u)
-  pushes_left most u pushes = subst (λ (w : Table D). ChangesRoots t t.owned (leave (length t.scoped) w)) (sym pushes.rest) (record {
+  pub pushes_left : (most : ℕ) (u : Table D) → Pushes most t u → ChangesOwned t t.owned (leave (length t.scoped) u)
+  pushes_left most u pushes = subst (λ (w : Table D). ChangesOwned t t.owned (leave (length t.scoped) w)) (sym pushes.rest) (record {
     pushes = pushes.pushes;
     rest = λ i. record t {
       scoped = take_front t.scoped pushes.scoped i;
@@ -48,7 +48,7 @@ module _ {D : Type 0} (t : Table D) where
     | inr end ↦ inr (eqb-true drops (2 ^ 64 - 1) end)
   ]
 
-  pub lacks_roots : (most : ℕ) (u : Table D) → most < most_objects → Pushes most t u → roots_full u ≡ true → LacksRoots t
+  pub lacks_roots : (most : ℕ) (u : Table D) → most < most_objects → Pushes most t u → roots_full u ≡ true → LacksCallRoots t
   lacks_roots most u below pushes full =
       let few = pushes.few in
       let at : roots_full (record t { scoped = t.scoped ++ pushes.scoped; pushes = t.pushes ++ pushes.pushes }) ≡ true = subst (λ (w : Table D). roots_full w ≡ true) pushes.rest full in
@@ -90,7 +90,7 @@ map_in layouts s version stands own =
 
 -- a look that ended, once its scope was left
 module _ {D : Type 0} (layouts : Layouts) (t : Table D) (m : IntMap) (key : ℤ) (mid new : StoreView D) (left : (u : Table D) (b : Account) → HoldsAccount layouts mid u b → HoldsAccount layouts new (leave (length t.scoped) u) b) where
-  leaves_roots : (u : Table D) (b : Account) → HoldsAccount layouts mid u b → Pushes 184 t u → Leaves layouts (ChangesRoots t t.owned) new
+  leaves_roots : (u : Table D) (b : Account) → HoldsAccount layouts mid u b → Pushes 184 t u → Leaves layouts (ChangesOwned t t.owned) new
   leaves_roots u b holds pushes = record { after = leave (length t.scoped) u; account = b; holds = left u b holds; changed = pushes_left t 184 u pushes }
 
   pub gets_ended : (tree : Tree) → find int_cmp key (pairs tree) ≡ finite.get m key → (result : Result (Option ℤ) ListFault)

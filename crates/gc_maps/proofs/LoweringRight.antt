@@ -18,7 +18,7 @@ use Rattle.gc_maps.specs.Trees.{Tree, leaf, node, height}
 use Rattle.gc_maps.specs.Parts.{RootIs, PartIs, OpenedIs, node_of, LowNodeIn}
 use Rattle.gc_maps.specs.Makes.{CanMakeOver}
 use Rattle.gc_maps.specs.Lowering.{Turns, CanTurn, IsHighRight, IsJoined}
-use Rattle.gc_maps.specs.Ends.{Pushes, Grows, EndsReading, Ends}
+use Rattle.gc_maps.specs.Ends.{Pushes, MakesNodes, EndsReading, EndsMakingNodes}
 use Rattle.gc_maps.proofs.Naming.{Keeps, held_table, part_kept}
 use Rattle.gc_maps.proofs.Growing.{pushes_keep, pushes_grow}
 use Rattle.gc_maps.proofs.Steps.{ends_after, ends_within, ends_map, nodes_later, passed}
@@ -40,7 +40,7 @@ module _ {D : Type 0} (layouts : Layouts) (kit : Kit) (s0 s1 s2 : StoreView D) (
   Opens answer = (t : Table D) (a : Account) (ty : ℕ) (x : Tree) (k v : ℤ) (y : Tree) → HoldsAccount layouts s0 t a → RootIs s0 t ty (Some root) (node_of x k v y)
       → height (node_of x k v y) < 2 ^ 31 → EndsReading layouts 2 t (λ s u o. OpenedIs s u ty o x k v y) answer s1
 
-  pub high_refused : (limits limits' : Limits) (f : ListFault) → Opens (Err f) → (Done : StoreView D → Table D → Part → Type 0) → (x : Tree) → High x → Ends {A = Part} layouts s0.alloc_counter kit 3 7 t limits limits' Done (Err f) s1
+  pub high_refused : (limits limits' : Limits) (f : ListFault) → Opens (Err f) → (Done : StoreView D → Table D → Part → Type 0) → (x : Tree) → High x → EndsMakingNodes {A = Part} layouts s0.alloc_counter kit 3 7 t limits limits' Done (Err f) s1
   high_refused limits limits' f opens Done leaf high = let e = high.high in absurd (omega (arith, e))
   high_refused limits limits' f opens Done (node b j u x) high =
       let p = high.low in
@@ -85,9 +85,9 @@ module _ {D : Type 0} (layouts : Layouts) (kit : Kit) (s0 s1 s2 : StoreView D) (
         }
 
   module _ (first : Opened) (limits limits' : Limits) (result : Result Part ListFault) where
-    joined : (Made : StoreView D → Table D → Part → Type 0) (x : Tree) (n m : ℕ) (u : Table D) → Grows limits'.limit kit 0 2 t u → n ≤ 3 → 2 + m ≤ 7
+    joined : (Made : StoreView D → Table D → Part → Type 0) (x : Tree) (n m : ℕ) (u : Table D) → MakesNodes limits'.limit kit 0 2 t u → n ≤ 3 → 2 + m ≤ 7
         → ((s : StoreView D) (w : Table D) (part : Part) → Made s w part → IsJoined s w kit.node part l (k, v) x)
-        → Ends layouts s1.alloc_counter kit n m u limits limits' Made result s2 → Ends layouts s0.alloc_counter kit 3 7 t limits limits' (λ s w part. IsJoined s w kit.node part l (k, v) x) result s2
+        → EndsMakingNodes layouts s1.alloc_counter kit n m u limits limits' Made result s2 → EndsMakingNodes layouts s0.alloc_counter kit 3 7 t limits limits' (λ s w part. IsJoined s w kit.node part l (k, v) x) result s2
     joined Made x n m u grows few low gives ends =
         ends_within layouts s0.alloc_counter kit (0 + n) (2 + m) 3 7 t limits limits' s2 (omega (arith, few)) low (λ s w part. IsJoined s w kit.node part l (k, v) x) result
         (ends_after layouts s0.alloc_counter s1.alloc_counter same1.counter kit 0 2 n m t u limits limits limits' (counts_same limits) s2 grows (λ s w part. IsJoined s w kit.node part l (k, v) x) result
@@ -108,8 +108,8 @@ module _ {D : Type 0} (layouts : Layouts) (kit : Kit) (s0 s1 s2 : StoreView D) (
     pub over_joined : test ≡ true → (limits limits' : Limits) (result : Result Part ListFault)
         → ((t : Table D) (a : Account) (x y z : Tree) (k v : ℤ) → HoldsAccount layouts s1 t a → PartIs s1 t kit.node first.right x
         → OpenedIs s1 t kit.node (record { left = opened.left; key = to_z w64 (of_z w64 opened.key); value = to_z w64 (of_z w64 opened.value); right = first.left }) y k v z
-        → Ends layouts s1.alloc_counter kit 2 2 t limits limits' (λ s u part. PartIs s u kit.node part (node_of (node_of y k v z) (to_z w64 (of_z w64 first.key)) (to_z w64 (of_z w64 first.value)) x)) result s2)
-        → (x : Tree) → High x → Ends layouts s0.alloc_counter kit 3 7 t limits limits' (λ s u part. IsJoined s u kit.node part l (k, v) x) result s2
+        → EndsMakingNodes layouts s1.alloc_counter kit 2 2 t limits limits' (λ s u part. PartIs s u kit.node part (node_of (node_of y k v z) (to_z w64 (of_z w64 first.key)) (to_z w64 (of_z w64 first.value)) x)) result s2)
+        → (x : Tree) → High x → EndsMakingNodes layouts s0.alloc_counter kit 3 7 t limits limits' (λ s u part. IsJoined s u kit.node part l (k, v) x) result s2
     over_joined is limits limits' result makes leaf high = let e = high.high in absurd (omega (arith, e))
     over_joined is limits limits' result makes (node b j u x) high =
         let here = at first opens x j u b high in
@@ -118,8 +118,8 @@ module _ {D : Type 0} (layouts : Layouts) (kit : Kit) (s0 s1 s2 : StoreView D) (
         let Made : ℤ → ℤ → StoreView D → Table D → Part → Type 0 = λ m n s w part. PartIs s w kit.node part (node_of (node_of l k v b) m n x) in
         joined first limits limits' result (Made j u) (node b j u x) 2 2 here.after (pushes_grow kit 2 t here.after here.changed.0) (omega arith) (omega arith)
         (λ s w part made. record { tree = node_of (node_of l k v b) j u x; is = made; joins = right_outer l k v b j u x high.left high.right high.high outer })
-        (subst (λ (m : ℤ). Ends layouts s1.alloc_counter kit 2 2 here.after limits limits' (Made m u) result s2) (passed first.key j key.key_fits key.key_is)
-        (subst (λ (n : ℤ). Ends layouts s1.alloc_counter kit 2 2 here.after limits limits' (Made (to_z w64 (of_z w64 first.key)) n) result s2) (passed first.value u key.value_fits key.value_is)
+        (subst (λ (m : ℤ). EndsMakingNodes layouts s1.alloc_counter kit 2 2 here.after limits limits' (Made m u) result s2) (passed first.key j key.key_fits key.key_is)
+        (subst (λ (n : ℤ). EndsMakingNodes layouts s1.alloc_counter kit 2 2 here.after limits limits' (Made (to_z w64 (of_z w64 first.key)) n) result s2) (passed first.value u key.value_fits key.value_is)
         (makes here.after here.account x l b k v here.holds key.right (low_is first opens x j u b high))))
 
     turns_here : test ≡ false → (x : Tree) (j u : ℤ) (b : Tree) (i w : ℤ) (c : Tree) (high : High (node (node b i w c) j u x)) → Turns s1 (at first opens x j u (node b i w c) high).after kit.node (record { left = opened.left; key = to_z w64 (of_z w64 opened.key); value = to_z w64 (of_z w64 opened.value); right = first.left }) first l k v b i w c j u x
@@ -167,8 +167,8 @@ module _ {D : Type 0} (layouts : Layouts) (kit : Kit) (s0 s1 s2 : StoreView D) (
 
     pub turn_joined : test ≡ false → (limits limits' : Limits) (result : Result Part ListFault)
         → ((t : Table D) (a : Account) (x b c y : Tree) (j u i w k v : ℤ) → HoldsAccount layouts s1 t a → Turns s1 t kit.node (record { left = opened.left; key = to_z w64 (of_z w64 opened.key); value = to_z w64 (of_z w64 opened.value); right = first.left }) first x j u b i w c k v y
-        → Ends layouts s1.alloc_counter kit 3 5 t limits limits' (λ s u' part. PartIs s u' kit.node part (node_of (node_of x j u b) i w (node_of c k v y))) result s2)
-        → (x : Tree) → High x → Ends layouts s0.alloc_counter kit 3 7 t limits limits' (λ s u part. IsJoined s u kit.node part l (k, v) x) result s2
+        → EndsMakingNodes layouts s1.alloc_counter kit 3 5 t limits limits' (λ s u' part. PartIs s u' kit.node part (node_of (node_of x j u b) i w (node_of c k v y))) result s2)
+        → (x : Tree) → High x → EndsMakingNodes layouts s0.alloc_counter kit 3 7 t limits limits' (λ s u part. IsJoined s u kit.node part l (k, v) x) result s2
     turn_joined is limits limits' result makes leaf high = let e = high.high in absurd (omega (arith, e))
     turn_joined is limits limits' result makes (node leaf j u x) high = let e = inner_high is x j u leaf high in absurd (omega (arith, e))
     turn_joined is limits limits' result makes (node (node b i w c) j u x) high =

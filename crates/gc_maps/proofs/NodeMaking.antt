@@ -29,7 +29,7 @@ use Rattle.gc_values.specs.declared.root.RawValue.TheVariants as raw
 use Rattle.gc_values.specs.declared.faults.GcHeapOutOfMemory.{GcHeapOutOfMemory}
 use Rattle.gc_values.specs.declared.faults.PlaceFault.{PlaceFault}
 use Rattle.gc_values.specs.declared.faults.PlaceFault.TheVariants as place_fault
-use Rattle.gc_store.specs.Requests.{CanPlaceFields, fields_of}
+use Rattle.gc_store.specs.Requests.{CanPlaceFields, struct_fields_of}
 use Rattle.gc_store.specs.Places.{Places, MayGetPages, RefusesPlace}
 use Rattle.gc_store.specs.Roots.{NamesReference}
 use Rattle.gc_store.specs.Stores.{IsSameStore}
@@ -45,7 +45,7 @@ use Rattle.gc_maps.specs.declared.part.Part.{Part}
 use Rattle.gc_maps.specs.Trees.{Tree, leaf, node, height}
 use Rattle.gc_maps.specs.Parts.{NamesLink, RootIs, PartIs, node_of}
 use Rattle.gc_maps.specs.Makes.{IsLow, LowPart}
-use Rattle.gc_maps.specs.Ends.{Grows, LacksNode}
+use Rattle.gc_maps.specs.Ends.{MakesNodes, LacksNode}
 use Rattle.gc_maps.proofs.Naming.{are_before, held_table, names_pushed, tree_kept}
 use Rattle.gc_maps.proofs.Growing.{grows_none, grows_keep}
 use Rattle.gc_maps.proofs.NodeReads.{not_null}
@@ -74,7 +74,7 @@ module _ {D : Type 0} (s : StoreView D) (t : Table D) where
 
   pub object_asked : (ty : ℕ) → IsNodeType t.types ty → (k v h : ℤ) (high : ℕ) → number_bits w32 h ≡ high → (left right : Option GcRootIndex) (l r : Reference) → NamesLink s t left l → NamesLink s t right r
       → (vs : List Value) × (AllStand s t (node_values k v h left right) vs
-      × (cells.node {D = D} ty (number_bits w64 k) (number_bits w64 v) high l r ≡ struct ty (stored_in (fields_of t.types ty) vs)))
+      × (cells.node {D = D} ty (number_bits w64 k) (number_bits w64 v) high l r ≡ struct ty (stored_in (struct_fields_of t.types ty) vs)))
   object_asked ty of k v h high is left right l r in_left in_right =
       let vs : List Value = numeric i64 (number_bits w64 k) ∷ numeric i64 (number_bits w64 v) ∷ numeric i32 high ∷ reference Any l ∷ reference Any r ∷ [] in (
         vs,
@@ -148,11 +148,11 @@ module _ {D : Type 0} (layouts : Layouts) (counter : Option ℕ) (kit : Kit) (s 
   abbrev pub Placed : Result GcRootIndex PlaceFault → Type 0
   Placed answer = Places layouts counter object (policy_state t a limits) limits' answer new
 
-  kept_as : (u : Table D) (b : Account) → HoldsAccount layouts new u b → Grows limits'.limit kit 1 1 t u → Leaves layouts (Grows limits'.limit kit 1 1 t) new
+  kept_as : (u : Table D) (b : Account) → HoldsAccount layouts new u b → MakesNodes limits'.limit kit 1 1 t u → Leaves layouts (MakesNodes limits'.limit kit 1 1 t) new
   kept_as u b held grows = record { after = u; account = b; holds = held; changed = grows }
 
-  pages_grow : (pages : ℕ) (u : Table D) → u ≡ with_pages pages t → KeepsLimit limits'.limit t u → Grows limits'.limit kit 1 1 t u
-  pages_grow pages u is keeps = subst (λ (w : Table D). KeepsLimit limits'.limit t w → Grows limits'.limit kit 1 1 t w) (sym is) (λ within. record {
+  pages_grow : (pages : ℕ) (u : Table D) → u ≡ with_pages pages t → KeepsLimit limits'.limit t u → MakesNodes limits'.limit kit 1 1 t u
+  pages_grow pages u is keeps = subst (λ (w : Table D). KeepsLimit limits'.limit t w → MakesNodes limits'.limit kit 1 1 t w) (sym is) (λ within. record {
     made = [];
     of_kit = λ k d below. absurd (omega (arith, below));
     few_made = omega arith;
@@ -163,21 +163,21 @@ module _ {D : Type 0} (layouts : Layouts) (counter : Option ℕ) (kit : Kit) (s 
     pages = within;
   }) keeps
 
-  pub refused_place : RefusesPlace layouts (policy_state t a limits) limits' new → Leaves layouts (Grows limits'.limit kit 1 1 t) new
+  pub refused_place : RefusesPlace layouts (policy_state t a limits) limits' new → Leaves layouts (MakesNodes limits'.limit kit 1 1 t) new
   refused_place refuses = kept_as t a refuses.holds (grows_none kit 1 1 t)
 
-  pub place_full : Placed (Err place_fault.RootsFull) → Leaves layouts (λ u. Grows limits'.limit kit 1 1 t u × (roots_full u ≡ true)) new
+  pub place_full : Placed (Err place_fault.RootsFull) → Leaves layouts (λ u. MakesNodes limits'.limit kit 1 1 t u × (roots_full u ≡ true)) new
   place_full places = record { after = t; account = a; holds = places.2.holds; changed = (grows_none kit 1 1 t, places.1) }
 
   -- the limiter tells the same limit afterwards
   within_after : (answer : Result GcRootIndex PlaceFault) (u : Table D) → Placed answer → KeepsLimit limits.limit t u → KeepsLimit limits'.limit t u
   within_after answer u placed keeps = subst (λ (l : Option ℕ). KeepsLimit l t u) (sym (places_limit layouts counter object (policy_state t a limits) limits' answer new placed)) keeps
 
-  wanted : (bytes : ℕ) (u : Table D) (b : Account) → HoldsAccount layouts new u b → Placed (Err place_fault.Memory) → MayGetPages limits.limit bytes t u → Leaves layouts (Grows limits'.limit kit 1 1 t) new
-  wanted bytes u b held wants (inl is) = kept_as u b held (subst (Grows limits'.limit kit 1 1 t) (sym is) (grows_none kit 1 1 t))
+  wanted : (bytes : ℕ) (u : Table D) (b : Account) → HoldsAccount layouts new u b → Placed (Err place_fault.Memory) → MayGetPages limits.limit bytes t u → Leaves layouts (MakesNodes limits'.limit kit 1 1 t) new
+  wanted bytes u b held wants (inl is) = kept_as u b held (subst (MakesNodes limits'.limit kit 1 1 t) (sym is) (grows_none kit 1 1 t))
   wanted bytes u b held wants (inr more) = kept_as u b held (pages_grow more.0 u more.1.1 (within_after (Err place_fault.Memory) u wants (may_get_within limits.limit t u bytes (inr more))))
 
-  pub place_wants : Placed (Err place_fault.Memory) → Leaves layouts (Grows limits'.limit kit 1 1 t) new
+  pub place_wants : Placed (Err place_fault.Memory) → Leaves layouts (MakesNodes limits'.limit kit 1 1 t) new
   place_wants wants = wanted _ wants.after.table wants.after.account wants.holds wants wants.pages
 
   pub gets_pages : (handle : GcRootIndex) (placed : Placed (Ok handle)) (u : Table D) → u.made ≡ true → u.pages ≡ placed.allocates.pages → KeepsLimit limits'.limit t u
@@ -221,18 +221,18 @@ module _ {D : Type 0} (layouts : Layouts) (counter : Option ℕ) (kit : Kit) (s 
   of_here : IsNodeType t.types kit.node
   of_here = subst (λ (types : List Declaration). IsNodeType types kit.node) holds.holds.types of
 
-  pub asked : (vs : List Value) × (AllStand s t (node_values key' value' (to_z w32 (of_z w32 h)) left.root right.root) vs × (the_object ≡ struct kit.node (stored_in (fields_of t.types kit.node) vs)))
+  pub asked : (vs : List Value) × (AllStand s t (node_values key' value' (to_z w32 (of_z w32 h)) left.root right.root) vs × (the_object ≡ struct kit.node (stored_in (struct_fields_of t.types kit.node) vs)))
   asked = object_asked s t kit.node of_here key' value' (to_z w32 (of_z w32 h)) (height the_tree) (int_kept h (height the_tree) low_tree high_is) left.root right.root in_left.root.reference in_right.root.reference in_left.root.names in_right.root.names
 
   pub is_of_kit : cells.IsOfKit kit the_object
   is_of_kit = record { ty = kit.node; of_kit = inr refl; values = _; object_is = refl }
 
   pub place_made : (handle : GcRootIndex) → Placed layouts counter kit s t a holds limits limits' new same the_object is_of_kit (Ok handle)
-      → Leaves layouts (λ u. Grows limits'.limit kit 1 1 t u × PartIs new u kit.node (record { root = Some handle; height = to_z w32 (of_z w32 h) }) (node_of x k v y)) new
+      → Leaves layouts (λ u. MakesNodes limits'.limit kit 1 1 t u × PartIs new u kit.node (record { root = Some handle; height = to_z w32 (of_z w32 h) }) (node_of x k v y)) new
   place_made handle placed =
       let pages = placed.allocates.pages in
       let u : Table D = make the_object (with_pages pages t) in
-      let grows : Grows limits'.limit kit 1 1 t u = record {
+      let grows : MakesNodes limits'.limit kit 1 1 t u = record {
         made = the_object ∷ [];
         of_kit = All-cons (cells.IsOfKit kit) the_object [] is_of_kit (All-nil (cells.IsOfKit kit));
         few_made = omega arith;

@@ -17,8 +17,8 @@ use Rattle.gc_maps.specs.declared.part.Node.{Node}
 use Rattle.gc_maps.specs.declared.part.Part.{Part}
 use Rattle.gc_maps.specs.Trees.{Tree, leaf, node, height, pairs}
 use Rattle.gc_maps.specs.Parts.{RootIs, PartIs, RootIn}
-use Rattle.gc_maps.specs.Paths.{TakesSide, IsPath, Descended}
-use Rattle.gc_maps.specs.Gaps.{others, AboveIn, Closes, IsLeast}
+use Rattle.gc_maps.specs.Paths.{TakesSide, LeadsDown, Descended}
+use Rattle.gc_maps.specs.Gaps.{others, AboveIn, Closes, IsLeastNode}
 use Rattle.gc_maps.specs.Searching.{IsSearch}
 use Rattle.gc_maps.specs.Ends.{Pushes, EndsReading}
 use Rattle.gc_maps.proofs.Naming.{Keeps, held_table, root_kept}
@@ -37,7 +37,7 @@ regroup before xs ps cs behind e = simp (append_assoc, append-nil)
 -- what taking the least node says
 abbrev pub TakesLeast : {D : Type 0} → Layouts → StoreView D → GcRootIndex → List Frame → StoreView D → ℤ → Result Frame ListFault → Type 0
 TakesLeast {D} layouts s right below new key result = (t : Table D) (a : Account) (ty : ℕ) (tree : Tree) → HoldsAccount layouts s t a → RootIs s t ty (Some right) tree → IsSearch tree → T (below_all int_cmp key (pairs tree))
-    → EndsReading layouts 184 t (λ s u least. IsLeast s u ty tree below least) result new
+    → EndsReading layouts 184 t (λ s u least. IsLeastNode s u ty tree below least) result new
 
 -- a key that is passed on is what it was
 pub takes_passed : {D : Type 0} (layouts : Layouts) (s : StoreView D) (right : GcRootIndex) (below : List Frame) (new : StoreView D) (key : ℤ) → SFits w64 key → (result : Result Frame ListFault)
@@ -64,13 +64,13 @@ module _ {D : Type 0} (layouts : Layouts) (s : StoreView D) (t : Table D) (a : A
     Takes result = TakesLeast layouts s right below s1 key result
 
     pub least_refused : (f : ListFault) → Takes (Err f) → (Done : StoreView D → Table D → Part → Type 0) → EndsReading {A = Part} layouts 184 t Done (Err f) s1
-    least_refused f takes Done = refused_later {A = Frame} layouts 0 184 t t (λ s u least. IsLeast s u ty d.right below least) Done f s1 (pushes_none 0 t) (takes t a ty d.right holds right_root right_search right_above)
+    least_refused f takes Done = refused_later {A = Frame} layouts 0 184 t t (λ s u least. IsLeastNode s u ty d.right below least) Done f s1 (pushes_none 0 t) (takes t a ty d.right holds right_root right_search right_above)
 
     module _ (least : Frame) (takes : Takes (Ok least)) (same1 : IsSameStore s s1) where
-      abbrev ends : Leaves layouts (λ u. Pushes 184 t u × IsLeast s1 u ty d.right below least) s1
+      abbrev ends : Leaves layouts (λ u. Pushes 184 t u × IsLeastNode s1 u ty d.right below least) s1
       ends = takes t a ty d.right holds right_root right_search right_above
 
-      abbrev l : IsLeast s1 ends.after ty d.right below least
+      abbrev l : IsLeastNode s1 ends.after ty d.right below least
       l = ends.changed.1
 
       -- there is no memory for a longer path
@@ -110,11 +110,11 @@ module _ {D : Type 0} (layouts : Layouts) (s : StoreView D) (t : Table D) (a : A
           value_fits = l.value_fits;
           b = [];
           a = [];
-          side = subst (λ (z : Bool). TakesSide s1 ends.after ty step z d.left least.key least.value d.right (IsPath s1 ends.after ty [] d.right) [] [] (pairs d.left ++ (least.key, least.value) ∷ []) []) (sym goes_right)
+          side = subst (λ (z : Bool). TakesSide s1 ends.after ty step z d.left least.key least.value d.right (LeadsDown s1 ends.after ty [] d.right) [] [] (pairs d.left ++ (least.key, least.value) ∷ []) []) (sym goes_right)
               (subst (λ (r : Option GcRootIndex). RootIs s1 ends.after ty r d.left) (sym other_is) (root_kept s t s1 ends.after keeps1 ty read.left d.left d.children.0), ((refl, (refl, refl)), (refl, refl)));
         }
 
-        way : IsPath s1 ends.after ty ((frames ++ step ∷ []) ++ below) (node leaf least.key least.value l.part) swapped.tree ((d.before ++ (pairs d.left ++ (least.key, least.value) ∷ [])) ++ []) (l.behind ++ d.behind)
+        way : LeadsDown s1 ends.after ty ((frames ++ step ∷ []) ++ below) (node leaf least.key least.value l.part) swapped.tree ((d.before ++ (pairs d.left ++ (least.key, least.value) ∷ [])) ++ []) (l.behind ++ d.behind)
         way =
             path_append s1 ends.after ty (frames ++ step ∷ []) below (node leaf least.key least.value l.part) d.right swapped.tree (d.before ++ (pairs d.left ++ (least.key, least.value) ∷ [])) d.behind [] l.behind
             (path_push s1 ends.after ty frames step d.right other swapped.tree d.before d.behind (pairs d.left ++ (least.key, least.value) ∷ []) [] swapped.path last) l.path

@@ -22,10 +22,10 @@ use Rattle.gc_maps.specs.declared.part.Node.{Node}
 use Rattle.gc_maps.specs.declared.part.Part.{Part}
 use Rattle.gc_maps.specs.Trees.{Tree, leaf, height, pairs, IsBalanced}
 use Rattle.gc_maps.specs.Parts.{RootIs, PartIs, RootIn, node_of}
-use Rattle.gc_maps.specs.Makes.{CanMake}
+use Rattle.gc_maps.specs.Makes.{CanMakeNode}
 use Rattle.gc_maps.specs.Paths.{HasChildren, Descended, FoundIn, Rises, RisesIn, IsBuilt}
 use Rattle.gc_maps.specs.Searching.{IsSearch}
-use Rattle.gc_maps.specs.Ends.{Pushes, Grows, EndsReading, Ends}
+use Rattle.gc_maps.specs.Ends.{Pushes, MakesNodes, EndsReading, EndsMakingNodes}
 use Rattle.gc_maps.proofs.Naming.{Keeps, keeps_then, held_table, root_kept, part_kept}
 use Rattle.gc_maps.proofs.NodeReads.{table_keeps}
 use Rattle.gc_maps.proofs.Growing.{grows_none, grows_under, grows_within, grows_keep, pushes_grow, pushes_keep, same_then}
@@ -59,7 +59,7 @@ module _ {D : Type 0} (layouts : Layouts) (kit : Kit) (s0 s1 : StoreView D) (sam
     same12 : IsSameStore s0 s2
     same12 = same_then s0 s1 s2 same1 same2
 
-    pub can_between : IsNodeType s0.types kit.node → CanMake D layouts s2 kit.node lp rp
+    pub can_between : IsNodeType s0.types kit.node → CanMakeNode D layouts s2 kit.node lp rp
     can_between of = record {
       of_nodes = nodes_later layouts s0 t a s2 t a kit.node holds got2.1 (table_keeps s0 t s2 same12) of;
       table = t;
@@ -70,22 +70,22 @@ module _ {D : Type 0} (layouts : Layouts) (kit : Kit) (s0 s1 : StoreView D) (sam
 
     pub between_made : (key value : ℤ) → SFits w64 key → SFits w64 value → (s3 : StoreView D) (limits limits' : Limits) (result : Result Part ListFault)
         → MakesNode layouts kit s2 limits limits' lp (to_z w64 (of_z w64 key)) (to_z w64 (of_z w64 value)) rp result s3
-        → Ends layouts s0.alloc_counter kit 1 1 t limits limits' (λ s' u part. PartIs s' u kit.node part (node_of x key value y)) result s3
+        → EndsMakingNodes layouts s0.alloc_counter kit 1 1 t limits limits' (λ s' u part. PartIs s' u kit.node part (node_of x key value y)) result s3
     between_made key value fits_k fits_v s3 limits limits' result makes =
         let the : ℤ → ℤ → StoreView D → Table D → Part → Type 0 = λ i n s' u part. PartIs s' u kit.node part (node_of x i n y) in
         ends_within layouts s0.alloc_counter kit (0 + 1) (0 + 1) 1 1 t limits limits' s3 (omega arith) (omega arith) (the key value) result
         (ends_after layouts s0.alloc_counter s2.alloc_counter same12.counter kit 0 0 1 1 t t limits limits limits' (counts_same limits) s3 (grows_none kit 0 0 t) (the key value) result
-        (subst (λ (i : ℤ). Ends layouts s2.alloc_counter kit 1 1 t limits limits' (the i value) result s3) (to_z-of_z w64 key fits_k)
-        (subst (λ (n : ℤ). Ends layouts s2.alloc_counter kit 1 1 t limits limits' (the (to_z w64 (of_z w64 key)) n) result s3) (to_z-of_z w64 value fits_v)
+        (subst (λ (i : ℤ). EndsMakingNodes layouts s2.alloc_counter kit 1 1 t limits limits' (the i value) result s3) (to_z-of_z w64 key fits_k)
+        (subst (λ (n : ℤ). EndsMakingNodes layouts s2.alloc_counter kit 1 1 t limits limits' (the (to_z w64 (of_z w64 key)) n) result s3) (to_z-of_z w64 value fits_v)
         (makes t a x y got2.1 left2 got2.0))))
 
 -- a key and a value that are passed on are what they were
 pub as_they_were : {D : Type 0} (layouts : Layouts) (counter : Option ℕ) (kit : Kit) (t : Table D) (limits limits' : Limits) (x y : Tree) (key value : ℤ) → SFits w64 key → SFits w64 value → (s3 : StoreView D) (result : Result Part ListFault)
-    → Ends layouts counter kit 1 1 t limits limits' (λ s' u part. PartIs s' u kit.node part (node_of x (to_z w64 (of_z w64 key)) (to_z w64 (of_z w64 value)) y)) result s3
-    → Ends layouts counter kit 1 1 t limits limits' (λ s' u part. PartIs s' u kit.node part (node_of x key value y)) result s3
+    → EndsMakingNodes layouts counter kit 1 1 t limits limits' (λ s' u part. PartIs s' u kit.node part (node_of x (to_z w64 (of_z w64 key)) (to_z w64 (of_z w64 value)) y)) result s3
+    → EndsMakingNodes layouts counter kit 1 1 t limits limits' (λ s' u part. PartIs s' u kit.node part (node_of x key value y)) result s3
 as_they_were layouts counter kit t limits limits' x y key value fits_k fits_v s3 result ends =
-    subst (λ (i : ℤ). Ends layouts counter kit 1 1 t limits limits' (λ s' u part. PartIs s' u kit.node part (node_of x i value y)) result s3) (to_z-of_z w64 key fits_k)
-    (subst (λ (n : ℤ). Ends layouts counter kit 1 1 t limits limits' (λ s' u part. PartIs s' u kit.node part (node_of x (to_z w64 (of_z w64 key)) n y)) result s3) (to_z-of_z w64 value fits_v) ends)
+    subst (λ (i : ℤ). EndsMakingNodes layouts counter kit 1 1 t limits limits' (λ s' u part. PartIs s' u kit.node part (node_of x i value y)) result s3) (to_z-of_z w64 key fits_k)
+    (subst (λ (n : ℤ). EndsMakingNodes layouts counter kit 1 1 t limits limits' (λ s' u part. PartIs s' u kit.node part (node_of x (to_z w64 (of_z w64 key)) n y)) result s3) (to_z-of_z w64 value fits_v) ends)
 
 -- the tree without nodes is no root
 pub no_root : {D : Type 0} (s : StoreView D) (t : Table D) (ty : ℕ) (x : Tree) → x ≡ leaf → RootIs s t ty None x
@@ -93,7 +93,7 @@ no_root s t ty x is = subst (λ (z : Tree). RootIs s t ty None z) (sym is) (reco
 
 -- a read that was refused ends a call that makes nodes
 pub read_refused : {D A B : Type 0} (layouts : Layouts) (counter : Option ℕ) (kit : Kit) (n m m' : ℕ) (t : Table D) (limits limits' : Limits) (DoneA : StoreView D → Table D → A → Type 0) (DoneB : StoreView D → Table D → B → Type 0)
-    (f : ListFault) (new : StoreView D) → m ≤ m' → EndsReading {A = A} layouts m t DoneA (Err f) new → Ends {A = B} layouts counter kit n m' t limits limits' DoneB (Err f) new
+    (f : ListFault) (new : StoreView D) → m ≤ m' → EndsReading {A = A} layouts m t DoneA (Err f) new → EndsMakingNodes {A = B} layouts counter kit n m' t limits limits' DoneB (Err f) new
 read_refused layouts counter kit n m m' t limits limits' DoneA DoneB fault.WrongStore new few ends = ends
 read_refused layouts counter kit n m m' t limits limits' DoneA DoneB fault.RootsFull new few ends =
     record { after = ends.after; account = ends.account; holds = ends.holds; changed = (grows_within kit 0 n m m' t ends.after (omega arith) few (pushes_grow kit m t ends.after ends.changed.0), ends.changed.1) }
@@ -134,20 +134,20 @@ module _ {D : Type 0} (layouts : Layouts) (kit : Kit) (s0 s1 : StoreView D) (sam
   module _ (s2 : StoreView D) (limits1 limits2 : Limits) where
     abbrev pub MakesEntry : Result Part ListFault → Type 0
     MakesEntry result = (t : Table D) (a : Account) (x y : Tree) → HoldsAccount layouts s1 t a → HasChildren s1 t kit.node found x y → height x < 400 → height y < 400
-        → Ends layouts s1.alloc_counter kit 1 1 t limits1 limits2 (λ s u part. PartIs s u kit.node part (node_of x (to_z w64 (of_z w64 key)) (to_z w64 (of_z w64 value)) y)) result s2
+        → EndsMakingNodes layouts s1.alloc_counter kit 1 1 t limits1 limits2 (λ s u part. PartIs s u kit.node part (node_of x (to_z w64 (of_z w64 key)) (to_z w64 (of_z w64 value)) y)) result s2
 
-    pub entry_ends : (result : Result Part ListFault) → MakesEntry result → Ends layouts s1.alloc_counter kit 1 1 u1 limits1 limits2 (λ s u part. PartIs s u kit.node part (node_of d.left key value d.right)) result s2
+    pub entry_ends : (result : Result Part ListFault) → MakesEntry result → EndsMakingNodes layouts s1.alloc_counter kit 1 1 u1 limits1 limits2 (λ s u part. PartIs s u kit.node part (node_of d.left key value d.right)) result s2
     entry_ends result makes =
         as_they_were layouts s1.alloc_counter kit u1 limits1 limits2 d.left d.right key value fits_k fits_v s2 result (makes u1 down.account d.left d.right down.holds d.children low_left low_right)
 
-    pub entry_refused : (f : ListFault) → MakesEntry (Err f) → (Done : StoreView D → Table D → Part → Type 0) → Ends {A = Part} layouts s0.alloc_counter kit 277 829 t limits1 limits2 Done (Err f) s2
+    pub entry_refused : (f : ListFault) → MakesEntry (Err f) → (Done : StoreView D → Table D → Part → Type 0) → EndsMakingNodes {A = Part} layouts s0.alloc_counter kit 277 829 t limits1 limits2 Done (Err f) s2
     entry_refused f makes Done =
         ends_within {A = Part} layouts s0.alloc_counter kit (0 + 1) (184 + 1) 277 829 t limits1 limits2 s2 (omega arith) (omega arith) Done (Err f)
         (refused_after {A = Part} {B = Part} layouts s0.alloc_counter s1.alloc_counter same1.counter kit 0 184 1 1 t u1 limits1 limits1 limits2 (counts_same limits1) s2 (pushes_grow kit 184 t u1 down.changed.0)
         (λ s u part. PartIs s u kit.node part (node_of d.left key value d.right)) Done f (entry_ends (Err f) makes))
 
     module _ (same2 : IsSameStore s1 s2) (part : Part) (makes : MakesEntry (Ok part)) where
-      abbrev two : Leaves layouts (λ u. Grows limits2.limit kit 1 1 u1 u × PartIs s2 u kit.node part (node_of d.left key value d.right)) s2
+      abbrev two : Leaves layouts (λ u. MakesNodes limits2.limit kit 1 1 u1 u × PartIs s2 u kit.node part (node_of d.left key value d.right)) s2
       two = entry_ends (Ok part) makes
 
       keeps2 : Keeps s1 u1 s2 two.after
@@ -180,8 +180,8 @@ module _ {D : Type 0} (layouts : Layouts) (kit : Kit) (s0 s1 : StoreView D) (sam
 
       pub put_ends : CountsOn limits1 limits2 → (s3 : StoreView D) (limits3 : Limits) → limits3.limit ≡ limits2.limit → (result : Result Part ListFault)
           → ((t : Table D) (a : Account) (whole : Tree) (entries : List (ℤ × ℤ)) → HoldsAccount layouts s2 t a → IsBalanced whole → height whole < 92 → Rises s2 t kit.node whole frames part entries
-          → Ends layouts s2.alloc_counter kit 276 644 t limits2 limits3 (λ s u built. IsBuilt s u kit.node built entries) result s3)
-          → Ends layouts s0.alloc_counter kit 277 829 t limits1 limits3 (λ s u built. IsBuilt s u kit.node built (put int_cmp key value (pairs tree))) result s3
+          → EndsMakingNodes layouts s2.alloc_counter kit 276 644 t limits2 limits3 (λ s u built. IsBuilt s u kit.node built entries) result s3)
+          → EndsMakingNodes layouts s0.alloc_counter kit 277 829 t limits1 limits3 (λ s u built. IsBuilt s u kit.node built (put int_cmp key value (pairs tree))) result s3
       put_ends counts s3 limits3 stays result builds =
           let Built : StoreView D → Table D → Part → Type 0 = λ s u built. IsBuilt s u kit.node built (put int_cmp key value (pairs tree)) in
           ends_within layouts s0.alloc_counter kit (0 + 277) (184 + 645) 277 829 t limits1 limits3 s3 (omega arith) (omega arith) Built result

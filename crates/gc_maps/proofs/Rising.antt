@@ -13,9 +13,9 @@ use Rattle.gc_maps.specs.declared.part.Opened.{Opened}
 use Rattle.gc_maps.specs.declared.part.Part.{Part}
 use Rattle.gc_maps.specs.Trees.{Tree, node, height, pairs, AreLevel, IsBalanced}
 use Rattle.gc_maps.specs.Parts.{RootIs, PartIs, RootIn}
-use Rattle.gc_maps.specs.Paths.{TakesSide, IsPath, Rises}
+use Rattle.gc_maps.specs.Paths.{TakesSide, LeadsDown, Rises}
 use Rattle.gc_maps.specs.Lowering.{IsJoinable, IsJoined, JoinableIn}
-use Rattle.gc_maps.specs.Ends.{Grows}
+use Rattle.gc_maps.specs.Ends.{MakesNodes}
 use Rattle.gc_maps.proofs.Naming.{keeps_then, held_table, part_kept}
 use Rattle.gc_maps.proofs.NodeReads.{table_keeps}
 use Rattle.gc_maps.proofs.Growing.{grows_keep}
@@ -30,10 +30,10 @@ module _ {D : Type 0} (s : StoreView D) (t : Table D) (ty : ℕ) where
   side_high f Rest n by false x k v y b a before behind takes = let h = by y b a takes.1.0 in omega (arith, h)
 
   -- a way is no longer than its tree is high
-  pub path_high : (fs : List Frame) (here whole : Tree) (b a : List (ℤ × ℤ)) → IsPath s t ty fs here whole b a → length fs + height here ≤ height whole
+  pub path_high : (fs : List Frame) (here whole : Tree) (b a : List (ℤ × ℤ)) → LeadsDown s t ty fs here whole b a → length fs + height here ≤ height whole
   path_high [] here whole b a path = let e = ap height path.0 in omega (arith, e)
   path_high (f ∷ fs) here whole b a path =
-      let h = side_high f (IsPath s t ty fs here) (length fs + height here) (λ child b' a' rest. path_high fs here child b' a' rest) f.goes_left path.left path.key path.value path.right path.b path.a b a path.side in
+      let h = side_high f (LeadsDown s t ty fs here) (length fs + height here) (λ child b' a' rest. path_high fs here child b' a' rest) f.goes_left path.left path.key path.value path.right path.b path.a b a path.side in
       let e = ap height path.is in
       omega (arith, h, e)
 
@@ -43,10 +43,10 @@ module _ {D : Type 0} (s : StoreView D) (t : Table D) (ty : ℕ) where
   side_balanced f Rest P by false x k v y b a before behind takes balanced = by y b a takes.1.0 balanced.in_right
 
   -- it leads to a balanced part of a balanced tree
-  pub path_balanced : (fs : List Frame) (here whole : Tree) (b a : List (ℤ × ℤ)) → IsPath s t ty fs here whole b a → IsBalanced whole → IsBalanced here
+  pub path_balanced : (fs : List Frame) (here whole : Tree) (b a : List (ℤ × ℤ)) → LeadsDown s t ty fs here whole b a → IsBalanced whole → IsBalanced here
   path_balanced [] here whole b a path balanced = subst IsBalanced path.0 balanced
   path_balanced (f ∷ fs) here whole b a path balanced =
-      side_balanced f (IsPath s t ty fs here) (IsBalanced here) (λ child b' a' rest. path_balanced fs here child b' a' rest) f.goes_left path.left path.key path.value path.right path.b path.a b a path.side
+      side_balanced f (LeadsDown s t ty fs here) (IsBalanced here) (λ child b' a' rest. path_balanced fs here child b' a' rest) f.goes_left path.left path.key path.value path.right path.b path.a b a path.side
       (subst IsBalanced path.is balanced)
 
 -- the pairs of a whole, where a part with its node takes the place of the part
@@ -70,7 +70,7 @@ glue_right pb xs ns pa bs as' b a e b_is a_is bs_is as_is =
 module _ {D : Type 0} (layouts : Layouts) (ty : ℕ) (s : StoreView D) (u : Table D) (b : Account) (held : HoldsAccount layouts s u b) (f : Frame) (here parent : Tree) (bs as' : List (ℤ × ℤ))
     (last : LastStep s u ty f here parent bs as') (balanced : IsBalanced parent) (low : height parent < 92) where
   abbrev Side : Bool → Type 0
-  Side side = TakesSide s u ty f side last.left last.key last.value last.right (IsPath s u ty [] here) last.b last.a bs as'
+  Side side = TakesSide s u ty f side last.left last.key last.value last.right (LeadsDown s u ty [] here) last.b last.a bs as'
 
   abbrev pub other_of : Bool → Tree
   other_of true = last.right
@@ -178,12 +178,12 @@ module _ {D : Type 0} (layouts : Layouts) (ty : ℕ) (s : StoreView D) (u : Tabl
       is = joinable;
     }
 
-    module _ (s2 : StoreView D) (same2 : IsSameStore s1 s2) (limit : Option ℕ) (kit : Kit) (u2 : Table D) (grows : Grows limit kit 3 7 u u2) (part2 : Part) (fs : List Frame) (whole : Tree) (pb pa before behind entries : List (ℤ × ℤ))
-        (path : IsPath s u ty fs parent whole pb pa) (before_is : before ≡ pb ++ bs) (behind_is : behind ≡ as' ++ pa) (whole_is : before ++ (pairs new ++ behind) ≡ entries) where
+    module _ (s2 : StoreView D) (same2 : IsSameStore s1 s2) (limit : Option ℕ) (kit : Kit) (u2 : Table D) (grows : MakesNodes limit kit 3 7 u u2) (part2 : Part) (fs : List Frame) (whole : Tree) (pb pa before behind entries : List (ℤ × ℤ))
+        (path : LeadsDown s u ty fs parent whole pb pa) (before_is : before ≡ pb ++ bs) (behind_is : behind ≡ as' ++ pa) (whole_is : before ++ (pairs new ++ behind) ≡ entries) where
       whole_here : (pb ++ bs) ++ (pairs new ++ (as' ++ pa)) ≡ entries
       whole_here = (λ i. sym before_is i ++ (pairs new ++ sym behind_is i)) ∙ whole_is
 
-      path2 : IsPath s2 u2 ty fs parent whole pb pa
+      path2 : LeadsDown s2 u2 ty fs parent whole pb pa
       path2 = path_kept s u s2 u2 (keeps_then s u s1 u s2 u2 (table_keeps s u s1 same1) (grows_keep kit 3 7 s1 u s2 u2 same2 grows)) ty fs parent whole pb pa path
 
       lifted_at : (side : Bool) → Side side → IsJoined s2 u2 ty part2 (left_of side) (last.key, last.value) (right_of side) → Rises s2 u2 ty whole fs part2 entries

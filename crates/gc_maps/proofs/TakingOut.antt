@@ -21,7 +21,7 @@ use Rattle.gc_maps.specs.Parts.{RootIs, PartIs, RootIn}
 use Rattle.gc_maps.specs.Paths.{Descended, Rises, RisesIn, IsBuilt}
 use Rattle.gc_maps.specs.Gaps.{others, Closes, GapIn}
 use Rattle.gc_maps.specs.Searching.{IsSearch}
-use Rattle.gc_maps.specs.Ends.{Pushes, EndsReading, Ends}
+use Rattle.gc_maps.specs.Ends.{Pushes, EndsReading, EndsMakingNodes}
 use Rattle.gc_maps.proofs.Naming.{Keeps, keeps_then, held_table, root_kept}
 use Rattle.gc_maps.proofs.Growing.{grows_within, pushes_grow, pushes_keep}
 use Rattle.gc_maps.proofs.Steps.{refused_after, ends_after, ends_within, nodes_later}
@@ -61,7 +61,7 @@ module _ {D : Type 0} (layouts : Layouts) (kit : Kit) (s0 s1 : StoreView D) (sam
         path_pairs s1 u kit.node frames d.here tree d.before d.behind d.path ∙ ap (λ (here : Tree). d.before ++ (pairs here ++ d.behind)) d.there
         ∙ sym (gap.without ∙ ap (λ (left : Tree). d.before ++ ((pairs left ++ pairs d.right) ++ d.behind)) d.children.0 ∙ ap (λ (right : Tree). d.before ++ (pairs right ++ d.behind)) d.children.1)
 
-    pub stays : (s2 : StoreView D) (part : Part) (limits limits' : Limits) → ReadsPart layouts s1 s2 root part → Ends layouts s0.alloc_counter kit 276 1012 t limits limits' Built (Ok part) s2
+    pub stays : (s2 : StoreView D) (part : Part) (limits limits' : Limits) → ReadsPart layouts s1 s2 root part → EndsMakingNodes layouts s0.alloc_counter kit 276 1012 t limits limits' Built (Ok part) s2
     stays s2 part limits limits' reads =
         let got : PartIs s2 down.after kit.node part tree × HoldsAccount layouts s2 down.after down.account = reads down.after down.account kit.node tree down.holds root1 (omega (arith, low)) in
         record {
@@ -89,7 +89,7 @@ module _ {D : Type 0} (layouts : Layouts) (kit : Kit) (s0 s1 : StoreView D) (sam
       abbrev Closing : Result Part ListFault → Type 0
       Closing result = ClosesGap layouts s1 frames read fs s2 key result
 
-      pub gap_refused : (limits limits' : Limits) (f : ListFault) → Closing (Err f) → Ends {A = Part} layouts s0.alloc_counter kit 276 1012 t limits limits' Built (Err f) s2
+      pub gap_refused : (limits limits' : Limits) (f : ListFault) → Closing (Err f) → EndsMakingNodes {A = Part} layouts s0.alloc_counter kit 276 1012 t limits limits' Built (Err f) s2
       gap_refused limits limits' f closes =
           ends_within {A = Part} layouts s0.alloc_counter kit (0 + 0) (184 + 184) 276 1012 t limits limits' s2 (omega arith) (omega arith) Built (Err f)
           (refused_after {A = Part} {B = Part} layouts s0.alloc_counter s1.alloc_counter same1.counter kit 0 184 0 184 t u1 limits limits limits' (counts_same limits) s2 (pushes_grow kit 184 t u1 down.changed.0) Built Built f
@@ -117,8 +117,8 @@ module _ {D : Type 0} (layouts : Layouts) (kit : Kit) (s0 s1 : StoreView D) (sam
 
         pub taken_out : (s3 : StoreView D) (limits limits' : Limits) (result : Result Part ListFault)
             → ((t : Table D) (a : Account) (whole : Tree) (entries : List (ℤ × ℤ)) → HoldsAccount layouts s2 t a → IsBalanced whole → height whole < 92 → Rises s2 t kit.node whole fs part entries
-            → Ends layouts s2.alloc_counter kit 276 644 t limits limits' (λ s u built. IsBuilt s u kit.node built entries) result s3)
-            → Ends layouts s0.alloc_counter kit 276 1012 t limits limits' Built result s3
+            → EndsMakingNodes layouts s2.alloc_counter kit 276 644 t limits limits' (λ s u built. IsBuilt s u kit.node built entries) result s3)
+            → EndsMakingNodes layouts s0.alloc_counter kit 276 1012 t limits limits' Built result s3
         taken_out s3 limits limits' result builds =
             ends_within layouts s0.alloc_counter kit (0 + 276) (184 + 828) 276 1012 t limits limits' s3 (omega arith) (omega arith) Built result
             (ends_after layouts s0.alloc_counter s1.alloc_counter same1.counter kit 0 184 276 828 t u1 limits limits limits' (counts_same limits) s3 (pushes_grow kit 184 t u1 down.changed.0) Built result

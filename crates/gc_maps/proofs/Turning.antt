@@ -19,14 +19,14 @@ use Rattle.gc_maps.specs.Trees.{Tree, node, height}
 use Rattle.gc_maps.specs.Parts.{RootIs, PartIs, OpenedIs, node_of, LowNodeIn}
 use Rattle.gc_maps.specs.Makes.{CanMakeTwo}
 use Rattle.gc_maps.specs.Lowering.{Turns}
-use Rattle.gc_maps.specs.Ends.{Pushes, EndsReading, Ends}
+use Rattle.gc_maps.specs.Ends.{Pushes, EndsReading, EndsMakingNodes}
 use Rattle.gc_maps.proofs.Naming.{Keeps, held_table, part_kept}
 use Rattle.gc_maps.proofs.Growing.{pushes_keep, pushes_grow}
 use Rattle.gc_maps.proofs.Steps.{ends_after, ends_within, nodes_later, passed}
 
 -- a refusal of steps that only read, where nodes are made
 pub reading_refused : {D A B : Type 0} (layouts : Layouts) (counter : Option ℕ) (kit : Kit) (n m : ℕ) (t : Table D) (limits limits' : Limits) (DoneA : StoreView D → Table D → A → Type 0) (DoneB : StoreView D → Table D → B → Type 0)
-    (f : ListFault) (new : StoreView D) → EndsReading {A = A} layouts m t DoneA (Err f) new → Ends {A = B} layouts counter kit 0 m t limits limits' DoneB (Err f) new
+    (f : ListFault) (new : StoreView D) → EndsReading {A = A} layouts m t DoneA (Err f) new → EndsMakingNodes {A = B} layouts counter kit 0 m t limits limits' DoneB (Err f) new
 reading_refused layouts counter kit n m t limits limits' DoneA DoneB fault.WrongStore new ends = ends
 reading_refused layouts counter kit n m t limits limits' DoneA DoneB fault.RootsFull new ends = record { after = ends.after; account = ends.account; holds = ends.holds; changed = (pushes_grow kit m t ends.after ends.changed.0, ends.changed.1) }
 reading_refused layouts counter kit n m t limits limits' DoneA DoneB (fault.HeapOutOfMemory f) new ends = absurd ends
@@ -52,7 +52,7 @@ module _ {D : Type 0} (layouts : Layouts) (kit : Kit) (s0 s1 s2 : StoreView D) (
   Opens answer = (t : Table D) (a : Account) (ty : ℕ) (x : Tree) (k v : ℤ) (y : Tree) → HoldsAccount layouts s0 t a → RootIs s0 t ty (Some middle) (node_of x k v y)
       → height (node_of x k v y) < 2 ^ 31 → EndsReading layouts 2 t (λ s u o. OpenedIs s u ty o x k v y) answer s1
 
-  pub turn_refused : (limits limits' : Limits) (f : ListFault) → Opens (Err f) → (Done : StoreView D → Table D → Part → Type 0) → Ends {A = Part} layouts s0.alloc_counter kit 3 5 t limits limits' Done (Err f) s1
+  pub turn_refused : (limits limits' : Limits) (f : ListFault) → Opens (Err f) → (Done : StoreView D → Table D → Part → Type 0) → EndsMakingNodes {A = Part} layouts s0.alloc_counter kit 3 5 t limits limits' Done (Err f) s1
   turn_refused limits limits' f opens Done =
       ends_within {A = Part} layouts s0.alloc_counter kit 0 2 3 5 t limits limits' s1 (omega arith) (omega arith) Done (Err f)
       (reading_refused {A = Opened} {B = Part} layouts s0.alloc_counter kit 0 2 t limits limits' (λ s u o. OpenedIs s u kit.node o b i w c) Done f s1 (opens t a kit.node b i w c holds middle_root middle_low))
@@ -103,13 +103,13 @@ module _ {D : Type 0} (layouts : Layouts) (kit : Kit) (s0 s1 s2 : StoreView D) (
 
     pub turned : (limits limits' : Limits) (result : Result Part ListFault)
         → ((t : Table D) (a : Account) (x y z w : Tree) (j u k v : ℤ) → HoldsAccount layouts s1 t a → OpenedIs s1 t kit.node low_left x j u y → OpenedIs s1 t kit.node low_right z k v w
-        → Ends layouts s1.alloc_counter kit 3 3 t limits limits' (λ s u' part. PartIs s u' kit.node part (node_of (node_of x j u y) (to_z w64 (of_z w64 inner.key)) (to_z w64 (of_z w64 inner.value)) (node_of z k v w))) result s2)
-        → Ends layouts s0.alloc_counter kit 3 5 t limits limits' (λ s u' part. PartIs s u' kit.node part (node_of (node_of x j u b) i w (node_of c k v y))) result s2
+        → EndsMakingNodes layouts s1.alloc_counter kit 3 3 t limits limits' (λ s u' part. PartIs s u' kit.node part (node_of (node_of x j u y) (to_z w64 (of_z w64 inner.key)) (to_z w64 (of_z w64 inner.value)) (node_of z k v w))) result s2)
+        → EndsMakingNodes layouts s0.alloc_counter kit 3 5 t limits limits' (λ s u' part. PartIs s u' kit.node part (node_of (node_of x j u b) i w (node_of c k v y))) result s2
     turned limits limits' result makes =
         let the : ℤ → ℤ → StoreView D → Table D → Part → Type 0 = λ m n s u' part. PartIs s u' kit.node part (node_of (node_of x j u b) m n (node_of c k v y)) in
         let is = at.changed.1 in
         ends_within layouts s0.alloc_counter kit (0 + 3) (2 + 3) 3 5 t limits limits' s2 (omega arith) (omega arith) (the i w) result
         (ends_after layouts s0.alloc_counter s1.alloc_counter same1.counter kit 0 2 3 3 t at.after limits limits limits' (counts_same limits) s2 (pushes_grow kit 2 t at.after at.changed.0) (the i w) result
-        (subst (λ (m : ℤ). Ends layouts s1.alloc_counter kit 3 3 at.after limits limits' (the m w) result s2) (passed inner.key i is.key_fits is.key_is)
-        (subst (λ (n : ℤ). Ends layouts s1.alloc_counter kit 3 3 at.after limits limits' (the (to_z w64 (of_z w64 inner.key)) n) result s2) (passed inner.value w is.value_fits is.value_is)
+        (subst (λ (m : ℤ). EndsMakingNodes layouts s1.alloc_counter kit 3 3 at.after limits limits' (the m w) result s2) (passed inner.key i is.key_fits is.key_is)
+        (subst (λ (n : ℤ). EndsMakingNodes layouts s1.alloc_counter kit 3 3 at.after limits limits' (the (to_z w64 (of_z w64 inner.key)) n) result s2) (passed inner.value w is.value_fits is.value_is)
         (makes at.after at.account x b c y j u k v at.holds left_is right_is))))

@@ -13,7 +13,7 @@ use Rattle.gc_store.specs.Stores.{IsSameStore}
 use Rattle.gc_model.specs.Values.{Reference}
 use Rattle.gc_lists.specs.declared.fault.ListFault.{ListFault}
 use Rattle.gc_lists.specs.declared.fault.ListFault.TheVariants as fault
-use Rattle.gc_lists.specs.Frames.{ChangesRoots, Leaves, most_objects}
+use Rattle.gc_lists.specs.Frames.{ChangesOwned, Leaves, most_objects}
 use Rattle.gc_lists.specs.Versions.{is_version_of}
 use Rattle.gc_lists.proofs.Scopes.{full_lacks}
 use Rattle.gc_maps.specs.declared.part.Node.{Node}
@@ -21,7 +21,7 @@ use Rattle.gc_maps.specs.Trees.{Tree, leaf, node, height, pairs}
 use Rattle.gc_maps.specs.Maps.{IntMap, MapStands, StandsForMapOf}
 use Rattle.gc_maps.specs.Parts.{RootIs, NodeIs, node_of}
 use Rattle.gc_maps.specs.Ends.{Pushes, EndsReading}
-use Rattle.gc_maps.specs.Copies.{Visits, LacksVisits, StopsForRoots, RootWithin, NodeWithin, EndsCopying, CopiedEntries, FailsToCopyEntries}
+use Rattle.gc_maps.specs.Copies.{VisitsNodes, LacksVisits, StopsForRoots, RootWithin, NodeWithin, EndsCopying, CopiedEntries, FailsToCopyEntries}
 use Rattle.gc_maps.proofs.Naming.{Keeps, keeps_then, names_more, root_kept, held_table}
 use Rattle.gc_maps.proofs.Growing.{pushes_none}
 use Rattle.gc_maps.proofs.NodeReads.{not_null}
@@ -39,7 +39,7 @@ ended_more true drops ends before few = omega (arith, few)
 ended_more false drops ends before few = omega (arith, few)
 
 module _ {D : Type 0} where
-  pub pushes_visit : (most : ℕ) (t u : Table D) → Pushes most t u → Visits most 0 t u
+  pub pushes_visit : (most : ℕ) (t u : Table D) → Pushes most t u → VisitsNodes most 0 t u
   pushes_visit most t u pushes =
       let same : u.drops ≡ t.drops = ap (λ (w : Table D). w.drops) pushes.rest in
       record {
@@ -50,15 +50,15 @@ module _ {D : Type 0} where
         rest = pushes.rest ∙ (λ i. record t { scoped = t.scoped ++ pushes.scoped; pushes = t.pushes ++ pushes.pushes; drops = sym same i });
       }
 
-  pub visits_none : (t : Table D) → Visits 0 0 t t
+  pub visits_none : (t : Table D) → VisitsNodes 0 0 t t
   visits_none t = pushes_visit 0 t t (pushes_none 0 t)
 
-  pub visits_within : (m a n b : ℕ) (t u : Table D) → m ≤ n → a ≤ b → Visits m a t u → Visits n b t u
+  pub visits_within : (m a n b : ℕ) (t u : Table D) → m ≤ n → a ≤ b → VisitsNodes m a t u → VisitsNodes n b t u
   visits_within m a n b t u below fewer visits =
       let few = visits.few in let ended = visits.ended in
       record { scoped = visits.scoped; few = omega (arith, few, below); pushes = visits.pushes; ended = omega (arith, ended, fewer); rest = visits.rest }
 
-  pub visits_then : (m a n b : ℕ) (t u v : Table D) → Visits m a t u → Visits n b u v → Visits (m + n) (a + b) t v
+  pub visits_then : (m a n b : ℕ) (t u v : Table D) → VisitsNodes m a t u → VisitsNodes n b u v → VisitsNodes (m + n) (a + b) t v
   visits_then m a n b t u v first second =
       let p = first.few in let q = second.few in let e = length-append first.scoped second.scoped in
       let x = first.ended in let y = second.ended in
@@ -79,7 +79,7 @@ module _ {D : Type 0} where
       named h r (inl n) = inl (record { serial = n.serial; names = record { push = n.names.push; pushed = n.names.pushed; is = n.names.is }; live = n.live })
       named h r (inr n) = inr (record { number = n.number; names = n.names; live = n.live })
 
-  pub visits_keep : (most ends : ℕ) (s : StoreView D) (t : Table D) (s' : StoreView D) (u : Table D) → IsSameStore s s' → Visits most ends t u → Keeps s t s' u
+  pub visits_keep : (most ends : ℕ) (s : StoreView D) (t : Table D) (s' : StoreView D) (u : Table D) → IsSameStore s s' → VisitsNodes most ends t u → Keeps s t s' u
   visits_keep most ends s t s' u same visits =
       let w : Table D = record t { drops = u.drops } in
       let is : u ≡ record w { objects = w.objects ++ []; scoped = w.scoped ++ visits.scoped; pushes = w.pushes ++ visits.pushes; made = w.made; pages = w.pages } =
@@ -87,7 +87,7 @@ module _ {D : Type 0} where
       keeps_then s t s w s' u (drops_keep s t u.drops) (subst (λ (x : Table D). Keeps s w s' x) (sym is) (names_more s w s' same [] visits.scoped visits.pushes t.made t.pages))
 
   -- a scope is left
-  pub visits_left : (most ends : ℕ) (t u : Table D) → Visits most ends t u → Visits 0 (ends + 1) t (leave (length t.scoped) u)
+  pub visits_left : (most ends : ℕ) (t u : Table D) → VisitsNodes most ends t u → VisitsNodes 0 (ends + 1) t (leave (length t.scoped) u)
   visits_left most ends t u visits =
       let w : Table D = record t { scoped = t.scoped ++ visits.scoped; pushes = t.pushes ++ visits.pushes; drops = u.drops } in
       record {
@@ -101,7 +101,7 @@ module _ {D : Type 0} where
       }
 
   -- where no root that was pushed stands, nothing else has changed
-  pub visits_change : (ends : ℕ) (t u : Table D) → Visits 0 ends t u → ChangesRoots t t.owned u
+  pub visits_change : (ends : ℕ) (t u : Table D) → VisitsNodes 0 ends t u → ChangesOwned t t.owned u
   visits_change ends t u visits = record {
     pushes = visits.pushes;
     rest = visits.rest
@@ -110,7 +110,7 @@ module _ {D : Type 0} where
   }
 
   -- why a root is refused behind what was visited
-  lacks_then : (m a roots ends : ℕ) (t u : Table D) → Visits m a t u → LacksVisits u roots ends → LacksVisits t (m + roots) (a + ends)
+  lacks_then : (m a roots ends : ℕ) (t u : Table D) → VisitsNodes m a t u → LacksVisits u roots ends → LacksVisits t (m + roots) (a + ends)
   lacks_then m a roots ends t u visits (inl few) =
       let greatest : u.max_scoped ≡ t.max_scoped = ap (λ (w : Table D). w.max_scoped) visits.rest in
       let count : length u.scoped ≡ length t.scoped + length visits.scoped = ap (λ (w : Table D). length w.scoped) visits.rest ∙ length-append t.scoped visits.scoped in
@@ -130,7 +130,7 @@ module _ {D : Type 0} where
 
 -- so where steps stop
 module _ {D : Type 0} (layouts : Layouts) where
-  stops_then : (m a roots ends : ℕ) (t u : Table D) → Visits m a t u → StopsForRoots layouts roots ends u → StopsForRoots layouts (m + roots) (a + ends) t
+  stops_then : (m a roots ends : ℕ) (t u : Table D) → VisitsNodes m a t u → StopsForRoots layouts roots ends u → StopsForRoots layouts (m + roots) (a + ends) t
   stops_then m a roots ends t u visits stops =
       record { inside = stops.inside; step = stops.step; account = stops.account; holds = stops.holds; visits = visits_then m a roots ends t u stops.step visits stops.visits; full = stops.full }
 
@@ -142,8 +142,8 @@ module _ {D : Type 0} (layouts : Layouts) where
   stops_lack roots ends t stops = lacks_then roots ends 1 0 t stops.step stops.visits (lacks_full stops.step stops.full)
 
 -- Steps behind those that came before, within what is allowed for all
-module _ {D : Type 0} (layouts : Layouts) (t u : Table D) (new : StoreView D) (m a n roots ends n' roots' ends' : ℕ) (before : Visits m a t u) (within : m + n ≤ n') (room : m + roots ≤ roots') (fewer : a + ends ≤ ends') where
-  leaves_after : Leaves layouts (Visits n ends u) new → Leaves layouts (Visits n' ends' t) new
+module _ {D : Type 0} (layouts : Layouts) (t u : Table D) (new : StoreView D) (m a n roots ends n' roots' ends' : ℕ) (before : VisitsNodes m a t u) (within : m + n ≤ n') (room : m + roots ≤ roots') (fewer : a + ends ≤ ends') where
+  leaves_after : Leaves layouts (VisitsNodes n ends u) new → Leaves layouts (VisitsNodes n' ends' t) new
   leaves_after leaves = record {
     after = leaves.after;
     account = leaves.account;
@@ -200,12 +200,12 @@ module _ {D : Type 0} (layouts : Layouts) (s : StoreView D) (root : Option GcRoo
   -- Its node was copied, and the scope is left.
   module _ (mid new : StoreView D) (scope : ℕ) (seen : (t : Table D) (a : Account) → HoldsAccount layouts s t a → scope ≡ length t.scoped)
       (left : (u : Table D) (b : Account) → HoldsAccount layouts mid u b → HoldsAccount layouts new (leave scope u) b) where
-    leaves_left : (t : Table D) (a : Account) → HoldsAccount layouts s t a → (most ends ends' : ℕ) → ends + 1 ≡ ends' → Leaves layouts (Visits most ends t) mid → Leaves layouts (Visits 0 ends' t) new
+    leaves_left : (t : Table D) (a : Account) → HoldsAccount layouts s t a → (most ends ends' : ℕ) → ends + 1 ≡ ends' → Leaves layouts (VisitsNodes most ends t) mid → Leaves layouts (VisitsNodes 0 ends' t) new
     leaves_left t a holds most ends ends' count leaves = record {
       after = leave (length t.scoped) leaves.after;
       account = leaves.account;
       holds = subst (λ (n : ℕ). HoldsAccount layouts new (leave n leaves.after) leaves.account) (seen t a holds) (left leaves.after leaves.account leaves.holds);
-      changed = subst (λ (n : ℕ). Visits 0 n t (leave (length t.scoped) leaves.after)) count (visits_left most ends t leaves.after leaves.changed);
+      changed = subst (λ (n : ℕ). VisitsNodes 0 n t (leave (length t.scoped) leaves.after)) count (visits_left most ends t leaves.after leaves.changed);
     }
 
     ends_left : (t : Table D) (a : Account) → HoldsAccount layouts s t a → (roots roots' ends ends' : ℕ) → roots ≡ roots' → ends + 1 ≡ ends' → (copied : Type 0) (result : Result (Unit {0}) ListFault)
@@ -236,7 +236,7 @@ node_refused {D} layouts s h depth old now new f reads t a ty x k v y holds is l
     ends : ℕ
     ends = length (pairs x) + length (pairs y)
 
-    left_as : (u : Table D) (b : Account) → HoldsAccount layouts new u b → Pushes 2 t u → Leaves layouts (Visits 2 ends t) new
+    left_as : (u : Table D) (b : Account) → HoldsAccount layouts new u b → Pushes 2 t u → Leaves layouts (VisitsNodes 2 ends t) new
     left_as u b held pushes = record { after = u; account = b; holds = held; changed = visits_within 2 0 2 ends t u (omega arith) (omega arith) (pushes_visit 2 t u pushes) }
 
     by : (g : ListFault) → EndsReading {A = Node} layouts 2 t (λ s' u read. NodeIs s' u ty read x k v y) (Err g) new
@@ -262,7 +262,7 @@ module _ {D : Type 0} (layouts : Layouts) (s0 s1 s2 s3 : StoreView D) (h : GcRoo
       low = omega (arith, low);
     }
 
-    visited : Visits 2 0 t one.after
+    visited : VisitsNodes 2 0 t one.after
     visited = pushes_visit 2 t one.after one.changed.0
 
     pub left_refused : (old mid now : List (ℤ × ℤ)) (f : ListFault) → CopiesPart layouts s1 read.left depth old mid (Err f) s2 → height (node_of x k v y) ≤ depth + 1
@@ -273,7 +273,7 @@ module _ {D : Type 0} (layouts : Layouts) (s0 s1 s2 s3 : StoreView D) (h : GcRoo
 
     -- and its left child copied
     module _ (same : IsSameStore s1 s2) (old mid : List (ℤ × ℤ)) (copies : CopiesPart layouts s1 read.left depth old mid (Ok tt) s2) (low : height (node_of x k v y) ≤ depth + 1) where
-      abbrev pub two : Leaves layouts (Visits 0 (length (pairs x)) one.after) s2 × (mid ≡ old ++ pairs x)
+      abbrev pub two : Leaves layouts (VisitsNodes 0 (length (pairs x)) one.after) s2 × (mid ≡ old ++ pairs x)
       two = copies one.after one.account ty x one.holds one.changed.1.left (omega (arith, low))
 
       right_is : RootIs s2 two.0.after ty read.right y
@@ -285,7 +285,7 @@ module _ {D : Type 0} (layouts : Layouts) (s0 s1 s2 s3 : StoreView D) (h : GcRoo
         low = omega (arith, low);
       }
 
-      visited_both : Visits (2 + 0) (0 + length (pairs x)) t two.0.after
+      visited_both : VisitsNodes (2 + 0) (0 + length (pairs x)) t two.0.after
       visited_both = visits_then 2 0 0 (length (pairs x)) t one.after two.0.after visited two.0.changed
 
       pub no_room : (now : List (ℤ × ℤ)) → EndsCopying layouts 2 (2 * depth + 2) (length (pairs x) + length (pairs y)) t (now ≡ old ++ pairs (node_of x k v y)) (Err fault.Memory) s2
@@ -325,7 +325,7 @@ module _ {D : Type 0} (layouts : Layouts) (s : StoreView D) (version : Option Gc
         let low = root_low s t ty version stands.is.tree is (map_search s t version ty m stands) in
         copies t a ty stands.is.tree holds is (omega (arith, low))
 
-    roots_changed : Leaves layouts (Visits 0 (length (pairs stands.is.tree)) t) new → Leaves layouts (ChangesRoots t t.owned) new
+    roots_changed : Leaves layouts (VisitsNodes 0 (length (pairs stands.is.tree)) t) new → Leaves layouts (ChangesOwned t t.owned) new
     roots_changed leaves = record { after = leaves.after; account = leaves.account; holds = leaves.holds; changed = visits_change (length (pairs stands.is.tree)) t leaves.after leaves.changed }
 
     pub map_copied : CopiesPart layouts s version 92 old now (Ok tt) new → CopiedEntries layouts m t now new

@@ -5,7 +5,7 @@ use Rattle.gc_model.specs.Table.{Table}
 use Rattle.gc_model.specs.Stores.{StoreView}
 use Rattle.gc_maps.specs.declared.part.Frame.{Frame}
 use Rattle.gc_maps.specs.Trees.{Tree, node, pairs}
-use Rattle.gc_maps.specs.Paths.{TakesSide, StepsDown, IsPath}
+use Rattle.gc_maps.specs.Paths.{TakesSide, StepsDown, LeadsDown}
 
 module _ {D : Type 0} (s : StoreView D) (t : Table D) (ty : ℕ) where
   -- the pairs of a node between those on both sides of a part of a child
@@ -16,14 +16,14 @@ module _ {D : Type 0} (s : StoreView D) (t : Table D) (ty : ℕ) where
   sided f middle Rest by false x k v y b a before behind takes =
       ap (λ es. pairs x ++ (k, v) ∷ es) (by y b a takes.1.0) ∙ (simp append_assoc) ∙ (λ i. sym takes.1.1.0 i ++ (middle ++ sym takes.1.1.1 i))
 
-  pub path_pairs : (fs : List Frame) (here whole : Tree) (b a : List (ℤ × ℤ)) → IsPath s t ty fs here whole b a → pairs whole ≡ b ++ (pairs here ++ a)
+  pub path_pairs : (fs : List Frame) (here whole : Tree) (b a : List (ℤ × ℤ)) → LeadsDown s t ty fs here whole b a → pairs whole ≡ b ++ (pairs here ++ a)
   path_pairs [] here whole b a path = ap pairs path.0 ∙ sym (append-nil (pairs here)) ∙ (λ i. sym path.1.0 i ++ (pairs here ++ sym path.1.1 i))
   path_pairs (f ∷ fs) here whole b a path =
-      ap pairs path.is ∙ sided f (pairs here) (IsPath s t ty fs here) (λ child b' a' rest. path_pairs fs here child b' a' rest) f.goes_left path.left path.key path.value path.right path.b path.a b a path.side
+      ap pairs path.is ∙ sided f (pairs here) (LeadsDown s t ty fs here) (λ child b' a' rest. path_pairs fs here child b' a' rest) f.goes_left path.left path.key path.value path.right path.b path.a b a path.side
 
   -- a way that goes one frame further
   abbrev pub LastStep : Frame → Tree → Tree → List (ℤ × ℤ) → List (ℤ × ℤ) → Type 0
-  LastStep f here parent bs as' = StepsDown s t ty f (IsPath s t ty [] here) parent bs as'
+  LastStep f here parent bs as' = StepsDown s t ty f (LeadsDown s t ty [] here) parent bs as'
 
   longer : (f : Frame) (bs as' : List (ℤ × ℤ)) (Rest Rest' : Tree → List (ℤ × ℤ) → List (ℤ × ℤ) → Type 0) (more : (child : Tree) (b a : List (ℤ × ℤ)) → Rest child b a → Rest' child (b ++ bs) (as' ++ a))
       (side : Bool) (x : Tree) (k v : ℤ) (y : Tree) (b a before behind : List (ℤ × ℤ)) → TakesSide s t ty f side x k v y Rest b a before behind
@@ -34,12 +34,12 @@ module _ {D : Type 0} (s : StoreView D) (t : Table D) (ty : ℕ) where
       (takes.0, (more y b a takes.1.0, (ap (λ es. es ++ bs) takes.1.1.0 ∙ append_assoc (pairs x) ((k, v) ∷ b) bs, ap (λ es. as' ++ es) takes.1.1.1)))
 
   -- one way behind another
-  pub path_append : (fs gs : List Frame) (here parent whole : Tree) (b a bs as' : List (ℤ × ℤ)) → IsPath s t ty fs parent whole b a → IsPath s t ty gs here parent bs as' → IsPath s t ty (fs ++ gs) here whole (b ++ bs) (as' ++ a)
+  pub path_append : (fs gs : List Frame) (here parent whole : Tree) (b a bs as' : List (ℤ × ℤ)) → LeadsDown s t ty fs parent whole b a → LeadsDown s t ty gs here parent bs as' → LeadsDown s t ty (fs ++ gs) here whole (b ++ bs) (as' ++ a)
   path_append [] gs here parent whole b a bs as' path rest =
-      subst (λ (w : Tree). IsPath s t ty gs here w (b ++ bs) (as' ++ a)) (sym path.0)
-      (subst (λ (es : List (ℤ × ℤ)). IsPath s t ty gs here parent (es ++ bs) (as' ++ a)) (sym path.1.0)
-      (subst (λ (es : List (ℤ × ℤ)). IsPath s t ty gs here parent bs (as' ++ es)) (sym path.1.1)
-      (subst (λ (es : List (ℤ × ℤ)). IsPath s t ty gs here parent bs es) (sym (append-nil as')) rest)))
+      subst (λ (w : Tree). LeadsDown s t ty gs here w (b ++ bs) (as' ++ a)) (sym path.0)
+      (subst (λ (es : List (ℤ × ℤ)). LeadsDown s t ty gs here parent (es ++ bs) (as' ++ a)) (sym path.1.0)
+      (subst (λ (es : List (ℤ × ℤ)). LeadsDown s t ty gs here parent bs (as' ++ es)) (sym path.1.1)
+      (subst (λ (es : List (ℤ × ℤ)). LeadsDown s t ty gs here parent bs es) (sym (append-nil as')) rest)))
   path_append (g ∷ fs) gs here parent whole b a bs as' path rest = record {
     left = path.left;
     key = path.key;
@@ -52,11 +52,11 @@ module _ {D : Type 0} (s : StoreView D) (t : Table D) (ty : ℕ) where
     value_fits = path.value_fits;
     b = path.b ++ bs;
     a = as' ++ path.a;
-    side = longer g bs as' (IsPath s t ty fs parent) (IsPath s t ty (fs ++ gs) here) (λ child b' a' way. path_append fs gs here parent child b' a' bs as' way rest) g.goes_left path.left path.key path.value path.right
+    side = longer g bs as' (LeadsDown s t ty fs parent) (LeadsDown s t ty (fs ++ gs) here) (λ child b' a' way. path_append fs gs here parent child b' a' bs as' way rest) g.goes_left path.left path.key path.value path.right
         path.b path.a b a path.side;
   }
 
-  pub path_push : (fs : List Frame) (f : Frame) (here parent whole : Tree) (b a bs as' : List (ℤ × ℤ)) → IsPath s t ty fs parent whole b a → LastStep f here parent bs as' → IsPath s t ty (fs ++ f ∷ []) here whole (b ++ bs) (as' ++ a)
+  pub path_push : (fs : List Frame) (f : Frame) (here parent whole : Tree) (b a bs as' : List (ℤ × ℤ)) → LeadsDown s t ty fs parent whole b a → LastStep f here parent bs as' → LeadsDown s t ty (fs ++ f ∷ []) here whole (b ++ bs) (as' ++ a)
   path_push fs f here parent whole b a bs as' path last = path_append fs (f ∷ []) here parent whole b a bs as' path last
 
   -- a way whose last frame is taken off
@@ -66,14 +66,14 @@ module _ {D : Type 0} (s : StoreView D) (t : Table D) (ty : ℕ) where
     pub a : List (ℤ × ℤ)
     pub bs : List (ℤ × ℤ)
     pub as' : List (ℤ × ℤ)
-    pub path : IsPath s t ty fs parent whole b a
+    pub path : LeadsDown s t ty fs parent whole b a
     pub last : LastStep f here parent bs as'
     pub before_is : before ≡ b ++ bs
     pub behind_is : behind ≡ as' ++ a
 
-  module _ (fs : List Frame) (g f : Frame) (here whole : Tree) (less : (child : Tree) (b a : List (ℤ × ℤ)) → IsPath s t ty (fs ++ f ∷ []) here child b a → Popped fs f here child b a) (before behind : List (ℤ × ℤ))
-      (path : StepsDown s t ty g (IsPath s t ty (fs ++ f ∷ []) here) whole before behind) where
-    step : (parent : Tree) (b a bb aa : List (ℤ × ℤ)) → TakesSide s t ty g g.goes_left path.left path.key path.value path.right (IsPath s t ty fs parent) b a bb aa → IsPath s t ty (g ∷ fs) parent whole bb aa
+  module _ (fs : List Frame) (g f : Frame) (here whole : Tree) (less : (child : Tree) (b a : List (ℤ × ℤ)) → LeadsDown s t ty (fs ++ f ∷ []) here child b a → Popped fs f here child b a) (before behind : List (ℤ × ℤ))
+      (path : StepsDown s t ty g (LeadsDown s t ty (fs ++ f ∷ []) here) whole before behind) where
+    step : (parent : Tree) (b a bb aa : List (ℤ × ℤ)) → TakesSide s t ty g g.goes_left path.left path.key path.value path.right (LeadsDown s t ty fs parent) b a bb aa → LeadsDown s t ty (g ∷ fs) parent whole bb aa
     step parent b a bb aa side = record {
       left = path.left;
       key = path.key;
@@ -89,7 +89,7 @@ module _ {D : Type 0} (s : StoreView D) (t : Table D) (ty : ℕ) where
       side = side;
     }
 
-    shorter : (side : Bool) → g.goes_left ≡ side → TakesSide s t ty g side path.left path.key path.value path.right (IsPath s t ty (fs ++ f ∷ []) here) path.b path.a before behind → Popped (g ∷ fs) f here whole before behind
+    shorter : (side : Bool) → g.goes_left ≡ side → TakesSide s t ty g side path.left path.key path.value path.right (LeadsDown s t ty (fs ++ f ∷ []) here) path.b path.a before behind → Popped (g ∷ fs) f here whole before behind
     shorter true e takes =
         let p = less path.left path.b path.a takes.1.0 in
         record {
@@ -99,7 +99,7 @@ module _ {D : Type 0} (s : StoreView D) (t : Table D) (ty : ℕ) where
           bs = p.bs;
           as' = p.as';
           path = step p.parent p.b p.a p.b (p.a ++ (path.key, path.value) ∷ pairs path.right)
-              (subst (λ (z : Bool). TakesSide s t ty g z path.left path.key path.value path.right (IsPath s t ty fs p.parent) p.b p.a p.b (p.a ++ (path.key, path.value) ∷ pairs path.right)) (sym e) (takes.0, (p.path, (refl, refl))));
+              (subst (λ (z : Bool). TakesSide s t ty g z path.left path.key path.value path.right (LeadsDown s t ty fs p.parent) p.b p.a p.b (p.a ++ (path.key, path.value) ∷ pairs path.right)) (sym e) (takes.0, (p.path, (refl, refl))));
           last = p.last;
           before_is = takes.1.1.0 ∙ p.before_is;
           behind_is = takes.1.1.1 ∙ ap (λ es. es ++ (path.key, path.value) ∷ pairs path.right) p.behind_is ∙ append_assoc p.as' p.a ((path.key, path.value) ∷ pairs path.right);
@@ -113,13 +113,13 @@ module _ {D : Type 0} (s : StoreView D) (t : Table D) (ty : ℕ) where
           bs = p.bs;
           as' = p.as';
           path = step p.parent p.b p.a (pairs path.left ++ (path.key, path.value) ∷ p.b) p.a
-              (subst (λ (z : Bool). TakesSide s t ty g z path.left path.key path.value path.right (IsPath s t ty fs p.parent) p.b p.a (pairs path.left ++ (path.key, path.value) ∷ p.b) p.a) (sym e) (takes.0, (p.path, (refl, refl))));
+              (subst (λ (z : Bool). TakesSide s t ty g z path.left path.key path.value path.right (LeadsDown s t ty fs p.parent) p.b p.a (pairs path.left ++ (path.key, path.value) ∷ p.b) p.a) (sym e) (takes.0, (p.path, (refl, refl))));
           last = p.last;
           before_is = takes.1.1.0 ∙ ap (λ es. pairs path.left ++ (path.key, path.value) ∷ es) p.before_is ∙ sym (append_assoc (pairs path.left) ((path.key, path.value) ∷ p.b) p.bs);
           behind_is = takes.1.1.1 ∙ p.behind_is;
         }
 
-  pub path_pop : (fs : List Frame) (f : Frame) (here whole : Tree) (b a : List (ℤ × ℤ)) → IsPath s t ty (fs ++ f ∷ []) here whole b a → Popped fs f here whole b a
+  pub path_pop : (fs : List Frame) (f : Frame) (here whole : Tree) (b a : List (ℤ × ℤ)) → LeadsDown s t ty (fs ++ f ∷ []) here whole b a → Popped fs f here whole b a
   path_pop [] f here whole b a path = record {
     parent = whole;
     b = [];

@@ -9,14 +9,14 @@ use Rattle.gc_policy.specs.Accounts.{Account, HoldsAccount}
 use Rattle.gc_values.specs.declared.root.GcRootIndex.{GcRootIndex}
 use Rattle.gc_lists.specs.declared.fault.ListFault.{ListFault}
 use Rattle.gc_lists.specs.declared.fault.ListFault.TheVariants as fault
-use Rattle.gc_lists.specs.Frames.{ChangesRoots, Leaves, most_objects}
+use Rattle.gc_lists.specs.Frames.{ChangesOwned, Leaves, most_objects}
 use Rattle.gc_maps.specs.Maps.{IntMap}
 use Rattle.gc_maps.specs.Parts.{RootIn, NodeIn, node_of}
 use Rattle.gc_maps.specs.Trees.{height}
 
 -- At most so many scoped roots were pushed that stand, others were pushed and are gone, and the scope ends that dropped a
 -- root are at most so many more.
-pub record Visits {D : Type 0} (most ends : ℕ) (t u : Table D) : Type 0 where
+pub record VisitsNodes {D : Type 0} (most ends : ℕ) (t u : Table D) : Type 0 where
   pub scoped : List Scoped
   pub few : length scoped ≤ most
   pub pushes : List Push
@@ -34,7 +34,7 @@ pub record StopsForRoots {D : Type 0} (layouts : Layouts) (roots ends : ℕ) (t 
   pub step : Table D
   pub account : Account
   pub holds : HoldsAccount layouts inside step account
-  pub visits : Visits roots ends t step
+  pub visits : VisitsNodes roots ends t step
   pub full : roots_full step ≡ true
 
 -- the root is a tree no higher than that, in some table that the store holds
@@ -49,20 +49,20 @@ pub record NodeWithin (D : Type 0) (layouts : Layouts) (s : StoreView D) (handle
 
 -- Steps that copy a part of a tree end with the part copied, or are refused a root.
 abbrev pub EndsCopying : {D : Type 0} → Layouts → ℕ → ℕ → ℕ → Table D → Type 0 → Result (Unit {0}) ListFault → StoreView D → Type 0
-EndsCopying layouts most roots ends t copied (Ok x) new = Leaves layouts (Visits most ends t) new × copied
+EndsCopying layouts most roots ends t copied (Ok x) new = Leaves layouts (VisitsNodes most ends t) new × copied
 EndsCopying layouts most roots ends t copied (Err fault.WrongStore) new = ⊥
-EndsCopying layouts most roots ends t copied (Err fault.RootsFull) new = StopsForRoots layouts roots ends t × Leaves layouts (Visits most ends t) new
+EndsCopying layouts most roots ends t copied (Err fault.RootsFull) new = StopsForRoots layouts roots ends t × Leaves layouts (VisitsNodes most ends t) new
 EndsCopying layouts most roots ends t copied (Err (fault.HeapOutOfMemory f)) new = ⊥
-EndsCopying layouts most roots ends t copied (Err fault.Memory) new = Leaves layouts (Visits most ends t) new
+EndsCopying layouts most roots ends t copied (Err fault.Memory) new = Leaves layouts (VisitsNodes most ends t) new
 
 -- what a copy of a map's entries leaves where it is answered, and where it isn't
 abbrev pub CopiedEntries : {D : Type 0} → Layouts → IntMap → Table D → List (ℤ × ℤ) → StoreView D → Type 0
-CopiedEntries layouts m t entries new = (entries ≡ finite.entries m) × Leaves layouts (ChangesRoots t t.owned) new
+CopiedEntries layouts m t entries new = (entries ≡ finite.entries m) × Leaves layouts (ChangesOwned t t.owned) new
 
 -- A scope end may come for each entry. A root is wanting at a step of the copy, so fewer are left than that needs, or scope ends are counted to their end on the way.
 abbrev pub FailsToCopyEntries : {D : Type 0} → Layouts → IntMap → Table D → ListFault → StoreView D → Type 0
 FailsToCopyEntries layouts m t fault.WrongStore new = ⊥
 FailsToCopyEntries layouts m t fault.RootsFull new =
-    (StopsForRoots layouts most_objects (finite.len m) t × LacksVisits t most_objects (finite.len m)) × Leaves layouts (ChangesRoots t t.owned) new
+    (StopsForRoots layouts most_objects (finite.len m) t × LacksVisits t most_objects (finite.len m)) × Leaves layouts (ChangesOwned t t.owned) new
 FailsToCopyEntries layouts m t (fault.HeapOutOfMemory f) new = ⊥
-FailsToCopyEntries layouts m t fault.Memory new = Leaves layouts (ChangesRoots t t.owned) new
+FailsToCopyEntries layouts m t fault.Memory new = Leaves layouts (ChangesOwned t t.owned) new

@@ -24,7 +24,7 @@ pub record Pushes {D : Type 0} (most : ℕ) (t u : Table D) : Type 0 where
   pub rest : u ≡ record t { scoped = t.scoped ++ scoped; pushes = t.pushes ++ pushes }
 
 -- and at most so many nodes of a kit were made, for which the heap may have got pages, under a limit
-pub record Grows {D : Type 0} (limit : Option ℕ) (kit : Kit) (nodes most : ℕ) (t u : Table D) : Type 0 where
+pub record MakesNodes {D : Type 0} (limit : Option ℕ) (kit : Kit) (nodes most : ℕ) (t u : Table D) : Type 0 where
   pub made : List (Object D)
   pub of_kit : All (IsOfKit kit) made
   pub few_made : length made ≤ nodes
@@ -47,7 +47,7 @@ EndsReading layouts most t Done (Err fault.Memory) new = Leaves layouts (Pushes 
 pub record LacksNode {D : Type 0} (layouts : Layouts) (counter : Option ℕ) (kit : Kit) (nodes most : ℕ) (t : Table D) (limits limits' : Limits) (need : ℕ) (new : StoreView D) : Type 0 where
   pub before : PolicyState D
   pub counts : CountsOn limits before.limits
-  pub grows : Grows limits'.limit kit nodes most t before.table
+  pub grows : MakesNodes limits'.limit kit nodes most t before.table
   pub asked : StoreView D
   pub held : HoldsAccount layouts asked before.table before.account
   pub object : Object D
@@ -55,9 +55,9 @@ pub record LacksNode {D : Type 0} (layouts : Layouts) (counter : Option ℕ) (ki
   pub lacks : LacksPlace layouts counter object before limits' need new
 
 -- Steps that make nodes end with what they give, or are refused a root or a node. A limiter tells these limits before and after.
-abbrev pub Ends : {D A : Type 0} → Layouts → Option ℕ → Kit → ℕ → ℕ → Table D → Limits → Limits → (StoreView D → Table D → A → Type 0) → Result A ListFault → StoreView D → Type 0
-Ends layouts counter kit nodes most t limits limits' Done (Ok x) new = Leaves layouts (λ u. Grows limits'.limit kit nodes most t u × Done new u x) new
-Ends layouts counter kit nodes most t limits limits' Done (Err fault.WrongStore) new = ⊥
-Ends layouts counter kit nodes most t limits limits' Done (Err fault.RootsFull) new = Leaves layouts (λ u. Grows limits'.limit kit nodes most t u × (roots_full u ≡ true)) new
-Ends layouts counter kit nodes most t limits limits' Done (Err (fault.HeapOutOfMemory f)) new = LacksNode layouts counter kit nodes most t limits limits' f.bytes_needed new
-Ends layouts counter kit nodes most t limits limits' Done (Err fault.Memory) new = Leaves layouts (Grows limits'.limit kit nodes most t) new
+abbrev pub EndsMakingNodes : {D A : Type 0} → Layouts → Option ℕ → Kit → ℕ → ℕ → Table D → Limits → Limits → (StoreView D → Table D → A → Type 0) → Result A ListFault → StoreView D → Type 0
+EndsMakingNodes layouts counter kit nodes most t limits limits' Done (Ok x) new = Leaves layouts (λ u. MakesNodes limits'.limit kit nodes most t u × Done new u x) new
+EndsMakingNodes layouts counter kit nodes most t limits limits' Done (Err fault.WrongStore) new = ⊥
+EndsMakingNodes layouts counter kit nodes most t limits limits' Done (Err fault.RootsFull) new = Leaves layouts (λ u. MakesNodes limits'.limit kit nodes most t u × (roots_full u ≡ true)) new
+EndsMakingNodes layouts counter kit nodes most t limits limits' Done (Err (fault.HeapOutOfMemory f)) new = LacksNode layouts counter kit nodes most t limits limits' f.bytes_needed new
+EndsMakingNodes layouts counter kit nodes most t limits limits' Done (Err fault.Memory) new = Leaves layouts (MakesNodes limits'.limit kit nodes most t) new

@@ -13,7 +13,7 @@ use Rattle.gc_maps.specs.declared.part.Node.{Node}
 use Rattle.gc_maps.specs.declared.part.Part.{Part}
 use Rattle.gc_maps.specs.Trees.{Tree, leaf, node, height, pairs, IsBalanced}
 use Rattle.gc_maps.specs.Parts.{RootIs}
-use Rattle.gc_maps.specs.Paths.{Descended, IsPath, Rises}
+use Rattle.gc_maps.specs.Paths.{Descended, LeadsDown, Rises}
 use Rattle.gc_maps.specs.Searching.{IsSearch}
 
 -- the pairs of other keys
@@ -21,13 +21,13 @@ abbrev pub others : ℤ → List (ℤ × ℤ) → List (ℤ × ℤ)
 others key pairs = where_key int_cmp (λ x. not (eq_by_cmp int_cmp key x)) pairs
 
 -- the frame is that of a tree's least node, which has no left child, and frames lead to that node
-pub record IsLeast {D : Type 0} (s : StoreView D) (t : Table D) (ty : ℕ) (tree : Tree) (frames : List Frame) (least : Frame) : Type 0 where
+pub record IsLeastNode {D : Type 0} (s : StoreView D) (t : Table D) (ty : ℕ) (tree : Tree) (frames : List Frame) (least : Frame) : Type 0 where
   pub part : Tree
   pub root : RootIs s t ty least.other part
   pub key_fits : FitsSigned w64 least.key
   pub value_fits : FitsSigned w64 least.value
   pub behind : List (ℤ × ℤ)
-  pub path : IsPath s t ty frames (node leaf least.key least.value part) tree [] behind
+  pub path : LeadsDown s t ty frames (node leaf least.key least.value part) tree [] behind
 
 -- the root is a search tree above a key, in some table that the store holds
 pub record AboveIn (D : Type 0) (layouts : Layouts) (s : StoreView D) (root : GcRootIndex) (key : ℤ) : Type 0 where

@@ -12,7 +12,7 @@ use Rattle.gc_lists.specs.Kits.{IsNodeType}
 use Rattle.gc_values.specs.declared.root.GcRootIndex.{GcRootIndex}
 use Rattle.gc_maps.specs.declared.part.Opened.{Opened}
 use Rattle.gc_maps.specs.declared.part.Part.{Part}
-use Rattle.gc_maps.specs.Ends.{Ends}
+use Rattle.gc_maps.specs.Ends.{EndsMakingNodes}
 use Rattle.gc_maps.specs.Trees.{Tree, height, IsBalanced, Joins}
 use Rattle.gc_maps.specs.Parts.{RootIs, OpenedIs, PartIs, node_of}
 
@@ -116,4 +116,4 @@ pub record JoinableIn (D : Type 0) (layouts : Layouts) (s : StoreView D) (ty : �
 -- Steps that join two trees with a pair between, by at most three nodes of a kit, end with a part that does, or are refused.
 abbrev pub EndsJoining : {D : Type 0} → Layouts → StoreView D → Kit → Table D → Limits → Limits → Tree → ℤ × ℤ → Tree → Result Part ListFault → StoreView D → Type 0
 EndsJoining layouts old kit t limits limits' x pair y result new =
-    Ends layouts old.alloc_counter kit 3 7 t limits limits' (λ s u part. IsJoined s u kit.node part x pair y) result new
+    EndsMakingNodes layouts old.alloc_counter kit 3 7 t limits limits' (λ s u part. IsJoined s u kit.node part x pair y) result new

@@ -10,7 +10,7 @@ use Rattle.gc_lists.specs.declared.kit.Kit.{Kit}
 use Rattle.gc_lists.specs.Kits.{IsNodeType}
 use Rattle.gc_maps.specs.declared.part.Part.{Part}
 use Rattle.gc_maps.specs.declared.part.Opened.{Opened}
-use Rattle.gc_maps.specs.Ends.{Ends}
+use Rattle.gc_maps.specs.Ends.{EndsMakingNodes}
 use Rattle.gc_maps.specs.Trees.{Tree, height}
 use Rattle.gc_maps.specs.Parts.{PartIs, OpenedIs}
 
@@ -27,7 +27,7 @@ pub record LowPart {D : Type 0} (s : StoreView D) (t : Table D) (ty : ℕ) (part
   pub low : height tree < 1000
 
 -- two parts are in some table that the store holds, and its type is one of nodes
-pub record CanMake (D : Type 0) (layouts : Layouts) (s : StoreView D) (ty : ℕ) (left right : Part) : Type 0 where
+pub record CanMakeNode (D : Type 0) (layouts : Layouts) (s : StoreView D) (ty : ℕ) (left right : Part) : Type 0 where
   pub of_nodes : IsNodeType s.types ty
   pub table : Table D
   pub holds : HoldsTable layouts s table
@@ -63,4 +63,4 @@ pub record CanMakeOver (D : Type 0) (layouts : Layouts) (s : StoreView D) (ty : 
 -- Steps that make a tree by nodes of a kit end with a part that is that tree, or are refused.
 abbrev pub EndsMaking : {D : Type 0} → Layouts → StoreView D → Kit → ℕ → ℕ → Table D → Limits → Limits → Tree → Result Part ListFault → StoreView D → Type 0
 EndsMaking layouts old kit nodes most t limits limits' tree result new =
-    Ends layouts old.alloc_counter kit nodes most t limits limits' (λ s u part. PartIs s u kit.node part tree) result new
+    EndsMakingNodes layouts old.alloc_counter kit nodes most t limits limits' (λ s u part. PartIs s u kit.node part tree) result new

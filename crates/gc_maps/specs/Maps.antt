@@ -10,7 +10,7 @@ use Rattle.gc_model.specs.Stores.{StoreView}
 use Rattle.gc_model.specs.Holds.{HoldsTable}
 use Rattle.gc_values.specs.declared.root.GcRootIndex.{GcRootIndex}
 use Rattle.gc_lists.specs.Cells.{IsNode}
-use Rattle.gc_lists.specs.Versions.{Stands, is_version_of}
+use Rattle.gc_lists.specs.Versions.{VersionStands, is_version_of}
 use Rattle.gc_maps.specs.Trees.{Tree, leaf, node, height, pairs, IsBalanced}
 
 -- the reference names a node of that type, whose children are as they have to be
@@ -40,7 +40,7 @@ pub record IsMap {D : Type 0} (types : List Declaration) (objects : List (Object
 
 -- the version stands for that map, with nodes of that type
 abbrev pub StandsForMapOf : {D : Type 0} → StoreView D → Table D → Option GcRootIndex → ℕ → IntMap → Type 0
-StandsForMapOf s t version ty m = Stands s t version (IsMap t.types t.objects ty m)
+StandsForMapOf s t version ty m = VersionStands s t version (IsMap t.types t.objects ty m)
 
 abbrev pub StandsForMap : {D : Type 0} → StoreView D → Table D → Option GcRootIndex → IntMap → Type 0
 StandsForMap s t version m = (ty : ℕ) × StandsForMapOf s t version ty m

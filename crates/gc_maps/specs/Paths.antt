@@ -40,9 +40,9 @@ pub record StepsDown {D : Type 0} (s : StoreView D) (t : Table D) (ty : ℕ) (f 
   pub side : TakesSide s t ty f f.goes_left left key value right Rest b a before behind
 
 -- frames lead from a tree to a part of it, the topmost first, between these pairs
-abbrev pub IsPath : {D : Type 0} → StoreView D → Table D → ℕ → List Frame → Tree → Tree → List (ℤ × ℤ) → List (ℤ × ℤ) → Type 0
-IsPath s t ty [] here whole before behind = (whole ≡ here) × ((before ≡ []) × (behind ≡ []))
-IsPath s t ty (f ∷ fs) here whole before behind = StepsDown s t ty f (IsPath s t ty fs here) whole before behind
+abbrev pub LeadsDown : {D : Type 0} → StoreView D → Table D → ℕ → List Frame → Tree → Tree → List (ℤ × ℤ) → List (ℤ × ℤ) → Type 0
+LeadsDown s t ty [] here whole before behind = (whole ≡ here) × ((before ≡ []) × (behind ≡ []))
+LeadsDown s t ty (f ∷ fs) here whole before behind = StepsDown s t ty f (LeadsDown s t ty fs here) whole before behind
 
 -- the other child than the one on whose side a key stands that compares so with that of its node
 abbrev pub away : Node → Ordering → Option GcRootIndex
@@ -67,7 +67,7 @@ pub record Descended {D : Type 0} (s : StoreView D) (t : Table D) (ty : ℕ) (wh
   pub right : Tree
   pub before : List (ℤ × ℤ)
   pub behind : List (ℤ × ℤ)
-  pub path : IsPath s t ty frames here whole before behind
+  pub path : LeadsDown s t ty frames here whole before behind
   pub children : HasChildren s t ty found left right
   pub there : IsThere key found left right here
   pub balanced : IsBalanced (node left key key right)
@@ -80,7 +80,7 @@ pub record Rises {D : Type 0} (s : StoreView D) (t : Table D) (ty : ℕ) (whole 
   pub new : Tree
   pub before : List (ℤ × ℤ)
   pub behind : List (ℤ × ℤ)
-  pub path : IsPath s t ty frames old whole before behind
+  pub path : LeadsDown s t ty frames old whole before behind
   pub is : PartIs s t ty part new
   pub balanced : IsBalanced new
   pub close : AreLevel (height new) (height old)
@@ -116,7 +116,7 @@ pub record FoundIn (D : Type 0) (layouts : Layouts) (s : StoreView D) (ty : ℕ)
   pub low_right : height right < 400
 
 -- two roots are trees, no high ones, in some table that the store holds, and its type is one of nodes
-pub record BetweenIn (D : Type 0) (layouts : Layouts) (s : StoreView D) (ty : ℕ) (left right : Option GcRootIndex) : Type 0 where
+pub record TwoTreesIn (D : Type 0) (layouts : Layouts) (s : StoreView D) (ty : ℕ) (left right : Option GcRootIndex) : Type 0 where
   pub of_nodes : IsNodeType s.types ty
   pub table : Table D
   pub holds : HoldsTable layouts s table

@@ -5,7 +5,7 @@ ghost use Rattle.gc_model.specs.Table.{Table};
 ghost use Rattle.gc_policy.specs.Accounts.{Account, HoldsAccount};
 ghost use Rattle.gc_store.specs.Stores.{IsSameStore};
 ghost use Rattle.gc_lists.specs.Refusals.{CountsOn};
-ghost use Rattle.gc_maps.specs.Makes.{CanMake, CanMakeTwo, EndsMaking, IsLow};
+ghost use Rattle.gc_maps.specs.Makes.{CanMakeNode, CanMakeTwo, EndsMaking, IsLow};
 ghost use Rattle.gc_maps.specs.Parts.{OpenedIs, PartIs, node_of};
 ghost use Rattle.gc_maps.specs.Trees.{Tree, height};
 
@@ -33,7 +33,7 @@ pub(crate) fn make_node<H: GcHeap, D: Drop, L: ResourceLimiter>(
     value: i64,
     right: Part,
 ) -> Result<Part, ListFault>
-    requires { CanMake D H.KIND store.old kit.now.node left right }
+    requires { CanMakeNode D H.KIND store.old kit.now.node left right }
     ensures makes { (t : Table D) (a : Account) (x y : Tree) → HoldsAccount H.KIND store.old t a → PartIs store.old t kit.now.node left x
         → PartIs store.old t kit.now.node right y
         → EndsMaking H.KIND store.old kit.now 1 1 t (L.limits limiter.old) (L.limits limiter.new) (node_of x key value y) result store.new }

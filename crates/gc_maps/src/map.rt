@@ -15,7 +15,7 @@ ghost use Rattle.gc_lists.specs.Refusals.{CountsOn};
 ghost use Rattle.gc_lists.specs.Versions.{is_version_of};
 ghost use Rattle.gc_maps.specs.Answers.{AnswersMap, Gets};
 ghost use Rattle.gc_maps.specs.Copies.{CopiedEntries, FailsToCopyEntries};
-ghost use Rattle.gc_maps.specs.Ends.{Ends};
+ghost use Rattle.gc_maps.specs.Ends.{EndsMakingNodes};
 ghost use Rattle.gc_maps.specs.Maps.{IntMap, MapOfStands, MapStands, StandsForMap, StandsForMapOf};
 ghost use Rattle.gc_maps.specs.Paths.{IsBuilt};
 
@@ -192,7 +192,7 @@ fn keep_built<H: GcHeap, D: Drop>(
 ) -> Result<HeapMap, ListFault>
     ensures keeps { (counter : Option ℕ) (kit : Kit) (nodes most : ℕ) (t : Table D) (limits limits' : Limits) (m : IntMap)
         → nodes ≤ most_objects → most < most_objects → scope ≡ length t.scoped
-        → Ends H.KIND counter kit nodes most t limits limits' (λ s u part. IsBuilt s u kit.node part (finite.entries m)) built store.old
+        → EndsMakingNodes H.KIND counter kit nodes most t limits limits' (λ s u part. IsBuilt s u kit.node part (finite.entries m)) built store.old
         → AnswersMap H.KIND counter kit m t limits limits' result store.new }
     ensures same { IsSameStore store.old store.new }
 {

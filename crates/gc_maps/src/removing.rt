@@ -8,8 +8,8 @@ ghost use Rattle.gc_model.specs.Table.{Table};
 ghost use Rattle.gc_policy.specs.Accounts.{Account, HoldsAccount};
 ghost use Rattle.gc_store.specs.Stores.{IsSameStore};
 ghost use Rattle.gc_lists.specs.Refusals.{CountsOn};
-ghost use Rattle.gc_maps.specs.Ends.{Ends, EndsReading};
-ghost use Rattle.gc_maps.specs.Gaps.{AboveIn, Closes, GapIn, IsLeast, others};
+ghost use Rattle.gc_maps.specs.Ends.{EndsMakingNodes, EndsReading};
+ghost use Rattle.gc_maps.specs.Gaps.{AboveIn, Closes, GapIn, IsLeastNode, others};
 ghost use Rattle.gc_maps.specs.Parts.{RootIs};
 ghost use Rattle.gc_maps.specs.Paths.{Descended, IsBuilt, SearchOfIn};
 ghost use Rattle.gc_maps.specs.Searching.{IsSearch};
@@ -34,7 +34,7 @@ fn take_least<H: GcHeap, D: Drop>(
     requires begins { path.old.items ≡ [] }
     ensures takes { (t : Table D) (a : Account) (ty : ℕ) (tree : Tree) → HoldsAccount H.KIND store.old t a
         → RootIs store.old t ty (Some root) tree → IsSearch tree → T (below_all int_cmp key (pairs tree))
-        → EndsReading H.KIND 184 t (λ s u least. IsLeast s u ty tree path.new.items least) result store.new }
+        → EndsReading H.KIND 184 t (λ s u least. IsLeastNode s u ty tree path.new.items least) result store.new }
     ensures same { IsSameStore store.old store.new }
 {
     match descend(store, Some(root), key, path) {
@@ -126,7 +126,7 @@ pub(crate) fn take_out<H: GcHeap, D: Drop, L: ResourceLimiter>(
     requires { SearchOfIn D H.KIND store.old kit.now.node root }
     ensures takes_out { (t : Table D) (a : Account) (tree : Tree) → HoldsAccount H.KIND store.old t a
         → RootIs store.old t kit.now.node root tree → IsSearch tree
-        → Ends H.KIND store.old.alloc_counter kit.now 276 1012 t (L.limits limiter.old) (L.limits limiter.new)
+        → EndsMakingNodes H.KIND store.old.alloc_counter kit.now 276 1012 t (L.limits limiter.old) (L.limits limiter.new)
         (λ s u part. IsBuilt s u kit.now.node part (others key (pairs tree))) result store.new }
     ensures limit { (L.limits limiter.new).limit ≡ (L.limits limiter.old).limit }
     ensures counts { CountsOn (L.limits limiter.old) (L.limits limiter.new) }

@@ -8,10 +8,10 @@ ghost use Rattle.gc_model.specs.Table.{Table};
 ghost use Rattle.gc_policy.specs.Accounts.{Account, HoldsAccount};
 ghost use Rattle.gc_store.specs.Stores.{IsSameStore};
 ghost use Rattle.gc_lists.specs.Refusals.{CountsOn};
-ghost use Rattle.gc_maps.specs.Ends.{Ends, EndsReading};
+ghost use Rattle.gc_maps.specs.Ends.{EndsMakingNodes, EndsReading};
 ghost use Rattle.gc_maps.specs.Makes.{EndsMaking};
 ghost use Rattle.gc_maps.specs.Parts.{RootIs, node_of};
-ghost use Rattle.gc_maps.specs.Paths.{away, BetweenIn, Descended, FoundIn, HasChildren, IsBuilt, Rises, RisesIn, SearchOfIn};
+ghost use Rattle.gc_maps.specs.Paths.{away, TwoTreesIn, Descended, FoundIn, HasChildren, IsBuilt, Rises, RisesIn, SearchOfIn};
 ghost use Rattle.gc_maps.specs.Searching.{IsSearch, SearchIn};
 ghost use Rattle.gc_maps.specs.Trees.{Tree, height, pairs, IsBalanced};
 
@@ -115,7 +115,7 @@ pub(crate) fn rebuild<H: GcHeap, D: Drop, L: ResourceLimiter>(
     ensures builds { (t : Table D) (a : Account) (whole : Tree) (entries : List (ℤ × ℤ)) → HoldsAccount H.KIND store.old t a
         → IsBalanced whole → height whole < 92
         → Rises store.old t kit.now.node whole path.old.items part entries
-        → Ends H.KIND store.old.alloc_counter kit.now 276 644 t (L.limits limiter.old) (L.limits limiter.new)
+        → EndsMakingNodes H.KIND store.old.alloc_counter kit.now 276 644 t (L.limits limiter.old) (L.limits limiter.new)
         (λ s u built. IsBuilt s u kit.now.node built entries) result store.new }
     ensures limit { (L.limits limiter.new).limit ≡ (L.limits limiter.old).limit }
     ensures counts { CountsOn (L.limits limiter.old) (L.limits limiter.new) }
@@ -146,7 +146,7 @@ fn make_between<H: GcHeap, D: Drop, L: ResourceLimiter>(
     value: i64,
     right: Option<GcRootIndex>,
 ) -> Result<Part, ListFault>
-    requires { BetweenIn D H.KIND store.old kit.now.node left right }
+    requires { TwoTreesIn D H.KIND store.old kit.now.node left right }
     ensures makes { (t : Table D) (a : Account) (x y : Tree) → HoldsAccount H.KIND store.old t a → RootIs store.old t kit.now.node left x
         → RootIs store.old t kit.now.node right y → height x < 400 → height y < 400
         → EndsMaking H.KIND store.old kit.now 1 1 t (L.limits limiter.old) (L.limits limiter.new) (node_of x key value y) result store.new }
@@ -194,7 +194,7 @@ pub(crate) fn put<H: GcHeap, D: Drop, L: ResourceLimiter>(
     requires { SearchOfIn D H.KIND store.old kit.now.node root }
     ensures puts { (t : Table D) (a : Account) (tree : Tree) → HoldsAccount H.KIND store.old t a
         → RootIs store.old t kit.now.node root tree → IsSearch tree
-        → Ends H.KIND store.old.alloc_counter kit.now 277 829 t (L.limits limiter.old) (L.limits limiter.new)
+        → EndsMakingNodes H.KIND store.old.alloc_counter kit.now 277 829 t (L.limits limiter.old) (L.limits limiter.new)
         (λ s u part. IsBuilt s u kit.now.node part (put int_cmp key value (pairs tree))) result store.new }
     ensures limit { (L.limits limiter.new).limit ≡ (L.limits limiter.old).limit }
     ensures counts { CountsOn (L.limits limiter.old) (L.limits limiter.new) }

@@ -3,7 +3,7 @@ use Rattle.std.proofs.Common.{◌≡◌, ℕ, zero, suc, cond, length, ◌+◌, 
 use Rattle.std.proofs.lemmas.Bool.{lt-ltb, le-ltb}
 use Rattle.gc_view.specs.Sizes.{alignment}
 use Rattle.gc_memory.specs.Lists.{In, here, there, sum_over, occ}
-use Rattle.gc_memory.specs.Chains.{Chain, done, next, places_of, places}
+use Rattle.gc_memory.specs.Chains.{Chain, done, next, bounded_places, places}
 use Rattle.gc_memory.proofs.ListLemmas.{sum_over-same, occ-same, occ-other, occ-none}
 
 -- objects don't end before they begin
@@ -121,12 +121,12 @@ pub Chain-length : (size : ℕ → ℕ) (a e : ℕ) (ps : List ℕ) → Chain si
 Chain-length size a _ [] done = omega arith
 Chain-length size a e (_ ∷ ps) (next l w c) = omega (arith, Chain-length size (a + size a) e ps c)
 
-places_are : (n : ℕ) (size : ℕ → ℕ) (a e : ℕ) (ps : List ℕ) → Chain size a e ps → length ps ≤ n → places_of n size a e ≡ ps
+places_are : (n : ℕ) (size : ℕ → ℕ) (a e : ℕ) (ps : List ℕ) → Chain size a e ps → length ps ≤ n → bounded_places n size a e ≡ ps
 places_are zero size a _ [] done h = refl
-places_are (suc n) size a _ [] done h = ap (λ b. cond b (a ∷ places_of n size (a + size a) a) []) (le-ltb a a (omega arith))
+places_are (suc n) size a _ [] done h = ap (λ b. cond b (a ∷ bounded_places n size (a + size a) a) []) (le-ltb a a (omega arith))
 places_are zero size a e (_ ∷ ps) (next l w c) h = absurd (omega arith)
 places_are (suc n) size a e (_ ∷ ps) (next l w c) h =
-    ap (λ b. cond b (a ∷ places_of n size (a + size a) e) []) (lt-ltb a e (omega (arith, Chain-end size (a + size a) e ps c)))
+    ap (λ b. cond b (a ∷ bounded_places n size (a + size a) e) []) (lt-ltb a e (omega (arith, Chain-end size (a + size a) e ps c)))
     ∙ ap (λ qs. a ∷ qs) (places_are n size (a + size a) e ps c (omega arith))
 
 -- the places that are read are those of the objects

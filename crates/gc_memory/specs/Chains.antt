@@ -9,10 +9,10 @@ pub data Chain (size : ℕ → ℕ) : ℕ → ℕ → List ℕ → Type 0 where
   next : {a e : ℕ} {ps : List ℕ} → alignment ≤ size a → size a % alignment ≡ 0 → Chain size (a + size a) e ps → Chain size a e (a ∷ ps)
 
 -- the places of at most so many objects from a up to e, read from their sizes
-abbrev pub places_of : ℕ → (ℕ → ℕ) → ℕ → ℕ → List ℕ
-places_of zero size a e = []
-places_of (suc n) size a e = cond (nat_lt a e) (a ∷ places_of n size (a + size a) e) []
+abbrev pub bounded_places : ℕ → (ℕ → ℕ) → ℕ → ℕ → List ℕ
+bounded_places zero size a e = []
+bounded_places (suc n) size a e = cond (nat_lt a e) (a ∷ bounded_places n size (a + size a) e) []
 
 -- the places of all objects from a up to e
 abbrev pub places : (ℕ → ℕ) → ℕ → ℕ → List ℕ
-places size a e = places_of e size a e
+places size a e = bounded_places e size a e

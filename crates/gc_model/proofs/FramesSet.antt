@@ -9,7 +9,7 @@ use Rattle.gc_owner.specs.declared.entry.GcClass.{GcClass}
 use Rattle.gc_owner.specs.declared.entry.SlotEntry.{SlotEntry}
 use Rattle.gc_owner.specs.RootColumns.{empty_slot as empty_entry}
 use Rattle.gc_model.specs.Values.{Reference}
-use Rattle.gc_model.specs.Table.{Slot, empty_slot}
+use Rattle.gc_model.specs.Table.{Slot, null_slot}
 use Rattle.gc_model.specs.Frames.{newest, opened, closed, changed}
 use Rattle.gc_model.specs.Words.{Placing, IsWord}
 use Rattle.gc_model.specs.RootPoints.{SlotsBy, FramesBy}
@@ -21,12 +21,12 @@ use Rattle.gc_model.proofs.SlotsSet.{slots-set}
 module _ (place : Placing) (frames : List (List Slot)) (entries : List (List SlotEntry)) (by : FramesBy place frames entries) where
   module _ (count : ℕ) where
     abbrev new_frame : List Slot
-    new_frame = replicate count empty_slot
+    new_frame = replicate count null_slot
 
     abbrev new_slots : List SlotEntry
     new_slots = replicate count empty_entry
 
-    opened_at : (i : ℕ) (slots : List SlotEntry) (frame : List Slot) → slice_get (opened count empty_entry entries) i ≡ Some slots → slice_get (opened count empty_slot frames) i ≡ Some frame → SlotsBy place frame slots
+    opened_at : (i : ℕ) (slots : List SlotEntry) (frame : List Slot) → slice_get (opened count empty_entry entries) i ≡ Some slots → slice_get (opened count null_slot frames) i ≡ Some frame → SlotsBy place frame slots
     opened_at i slots frame e f =
         elim (slice_get-push_cases entries new_slots i slots e) [
           | inl old ↦ elim (slice_get-push_cases frames new_frame i frame f) [
@@ -39,7 +39,7 @@ module _ (place : Placing) (frames : List (List Slot)) (entries : List (List Slo
           ]
         ]
 
-    pub frames-opened : FramesBy place (opened count empty_slot frames) (opened count empty_entry entries)
+    pub frames-opened : FramesBy place (opened count null_slot frames) (opened count empty_entry entries)
     frames-opened = record {
       same_count = omega (arith, length-append entries (new_slots ∷ []), length-append frames (new_frame ∷ []), by.same_count);
       each = opened_at;

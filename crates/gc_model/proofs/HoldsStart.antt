@@ -9,7 +9,7 @@ use Rattle.gc_types.specs.declared.kind.Layouts.{Layouts}
 use Rattle.gc_types.specs.declared.kind.Layouts.TheVariants.{Null, Counting, Copying}
 use Rattle.gc_view.specs.Pages.{max_pages}
 use Rattle.gc_model.specs.Sizes.{next_after}
-use Rattle.gc_model.specs.Table.{Table, start, global_count, empty_slot}
+use Rattle.gc_model.specs.Table.{Table, start, global_count, null_slot}
 use Rattle.gc_view.specs.Heaps.{HeapView, HeapObject}
 use Rattle.gc_owner.specs.declared.entry.SlotEntry.{SlotEntry}
 use Rattle.gc_model.specs.Stores.{StoreView, empty_store, unset_globals}
@@ -62,7 +62,7 @@ holds_untouched D layouts s untouched = record {
   scoped = record { same_count = ap length untouched.scoped; each = λ i entry root e f. absurd (none-some root f) };
   pushes = record { past = λ serial p e. absurd (none-some p e); early = λ serial p e. absurd (none-some p e); apart = λ a b p e f. absurd (none-some p e) };
   frames = subst (λ (es : List (List SlotEntry)). FramesBy nowhere [] es) (sym untouched.frames) (frames-empty nowhere);
-  globals = subst (λ (es : List SlotEntry). GlobalsBy nowhere (replicate global_count empty_slot) es) (sym untouched.globals) (globals-empty nowhere);
+  globals = subst (λ (es : List SlotEntry). GlobalsBy nowhere (replicate global_count null_slot) es) (sym untouched.globals) (globals-empty nowhere);
   owned = untouched.owned;
   pending = record { same_word = untouched.pending; thrown = λ r e. absurd (none-some r e) };
   interned = interned-none s.ids untouched.ids;

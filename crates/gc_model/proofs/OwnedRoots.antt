@@ -9,7 +9,7 @@ use Rattle.gc_owner.specs.declared.entry.OwnedEntry.{OwnedEntry}
 use Rattle.gc_owner.specs.RootColumns as columns
 use Rattle.gc_model.specs.Values.{Reference}
 use Rattle.gc_model.specs.Table.{Owned}
-use Rattle.gc_model.specs.OwnedRoots.{owned_among, handles_changed, with_handles}
+use Rattle.gc_model.specs.OwnedRoots.{owned_among, handles_changed, handled_roots}
 use Rattle.gc_model.specs.Words.{Placing, IsWord}
 use Rattle.gc_model.specs.RootPoints.{OwnedRootBy, OwnedBy}
 use Rattle.gc_model.proofs.Members.{item_at, map_among, among_map, filter_among, among_filter, filter_all, set_among, among_set_new, among_set_old, pairs_map, pairs_set}
@@ -114,10 +114,10 @@ module _ (place : Placing) (owns count : ℕ) (owned : List Owned) (entries : Li
     other_stands : (e : OwnedEntry) (root : Owned) → OwnedRootBy place e root → e.number ≢ entry.number → OwnedRootBy place e (changed root)
     other_stands e root stands differ = subst (λ (x : Owned). OwnedRootBy place e x) (sym (changed_other root (λ same. differ (stands.number ∙ same)))) stands
 
-    passed : (root : Owned) (e : OwnedEntry) → Contains owned root → OwnedRootBy place e (changed root) → Contains (with_handles (handles_changed entry.number change owned)) (changed root)
+    passed : (root : Owned) (e : OwnedEntry) → Contains owned root → OwnedRootBy place e (changed root) → Contains (handled_roots (handles_changed entry.number change owned)) (changed root)
     passed root e c stands = among_filter has_handles (map changed owned) (changed root) (among_map changed owned root c) (some_passes (changed root).handles stands.held)
 
-    pub owned_counted : OwnedBy place owns count (with_handles (handles_changed entry.number change owned)) (set entries index changed_entry)
+    pub owned_counted : OwnedBy place owns count (handled_roots (handles_changed entry.number change owned)) (set entries index changed_entry)
     owned_counted = record {
       same_owns = by.same_owns;
       in_table = λ e c positive. elim (set_among entries index changed_entry e there.1 c) [

@@ -7,7 +7,7 @@ use Rattle.std.proofs.lemmas.Option.{none-some}
 use Rattle.gc_owner.specs.declared.entry.RootEntry.{RootEntry}
 use Rattle.gc_owner.specs.declared.entry.SlotEntry.{SlotEntry}
 use Rattle.gc_model.specs.Values.{Reference}
-use Rattle.gc_model.specs.Table.{Slot, Owned, Scoped, Push, empty_slot, global_count}
+use Rattle.gc_model.specs.Table.{Slot, Owned, Scoped, Push, null_slot, global_count}
 use Rattle.gc_model.specs.Stores.{unset_globals}
 use Rattle.gc_owner.specs.RootColumns.{empty_slot as empty_entry}
 use Rattle.gc_owner.specs.declared.entry.OwnedEntry.{OwnedEntry}
@@ -97,16 +97,16 @@ replicated (suc n) x zero y e = grind (arith, e)
 replicated (suc n) x (suc i) y e = replicated n x i y e
 
 -- slots that hold nothing are the table's empty slots
-pub slots-empty : (place : Placing) (count : ℕ) → SlotsBy place (replicate count empty_slot) (replicate count empty_entry)
+pub slots-empty : (place : Placing) (count : ℕ) → SlotsBy place (replicate count null_slot) (replicate count empty_entry)
 slots-empty place count = record {
-  same_count = length-replicate count empty_entry ∙ sym (length-replicate count empty_slot);
+  same_count = length-replicate count empty_entry ∙ sym (length-replicate count null_slot);
   each = λ i entry slot e f.
-      subst (λ (x : Slot). SlotBy place entry x) (replicated count empty_slot i slot f)
-      (subst (λ (x : SlotEntry). SlotBy place x empty_slot) (replicated count empty_entry i entry e) (record { class = refl; word = refl }));
+      subst (λ (x : Slot). SlotBy place entry x) (replicated count null_slot i slot f)
+      (subst (λ (x : SlotEntry). SlotBy place x null_slot) (replicated count empty_entry i entry e) (record { class = refl; word = refl }));
 }
 
 -- and so are globals of which none was set
-pub globals-empty : (place : Placing) → GlobalsBy place (replicate global_count empty_slot) unset_globals
+pub globals-empty : (place : Placing) → GlobalsBy place (replicate global_count null_slot) unset_globals
 globals-empty place = record { count = refl; slots = slots-empty place global_count }
 
 -- where no frame is open there is none
@@ -114,13 +114,13 @@ pub frames-empty : (place : Placing) → FramesBy place [] []
 frames-empty place = record { same_count = refl; each = λ i slots frame e f. absurd (none-some frame f) }
 
 -- a slot that stands for the empty one is empty
-empty_entry-only : (place : Placing) (entry : SlotEntry) → SlotBy place entry empty_slot → entry ≡ empty_entry
+empty_entry-only : (place : Placing) (entry : SlotEntry) → SlotBy place entry null_slot → entry ≡ empty_entry
 empty_entry-only place entry by i = record { class = by.class i; word = by.word i }
 
 -- and the table's empty slots are globals of which none was set
-pub unset_from_table : (place : Placing) (entries : List SlotEntry) → GlobalsBy place (replicate global_count empty_slot) entries → entries ≡ unset_globals
+pub unset_from_table : (place : Placing) (entries : List SlotEntry) → GlobalsBy place (replicate global_count null_slot) entries → entries ≡ unset_globals
 unset_from_table place entries by =
     all_replicated empty_entry global_count entries by.slots.same_count (λ i entry e.
-    let slot = slice_get-same_length entries (replicate global_count empty_slot) i entry by.slots.same_count e in
+    let slot = slice_get-same_length entries (replicate global_count null_slot) i entry by.slots.same_count e in
     empty_entry-only place entry
-    (subst (λ (x : Slot). SlotBy place entry x) (sym (replicated global_count empty_slot i slot.0 slot.1)) (by.slots.each i entry slot.0 e slot.1)))
+    (subst (λ (x : Slot). SlotBy place entry x) (sym (replicated global_count null_slot i slot.0 slot.1)) (by.slots.each i entry slot.0 e slot.1)))

@@ -32,7 +32,7 @@ abbrev pub skipped : ℕ
 skipped = 16
 
 -- The reachable objects and so many bytes more have room in a half of a copying heap's memory.
-pub record HasRoom {D : Type 0} (t : Table D) (size : ℕ) : Type 0 where
+pub record FitsHalf {D : Type 0} (t : Table D) (size : ℕ) : Type 0 where
   pub reached : List ℕ
   pub are_reached : AreAll (IsReached t) reached
   pub room : skipped + sum (map (copied_size t) reached) + round_up size alignment ≤ page / 2 * t.pages
@@ -42,7 +42,7 @@ pub record HasRoom {D : Type 0} (t : Table D) (size : ℕ) : Type 0 where
 abbrev pub FitsIn : {D : Type 0} → Layouts → Placing → Table D → ℕ → Type 0
 FitsIn Null places t size = Fits t size
 FitsIn Counting places t size = HasGap (KeptAt Counting t places) t size
-FitsIn Copying places t size = HasRoom t size
+FitsIn Copying places t size = FitsHalf t size
 
 -- it has none
 abbrev pub LacksFit : {D : Type 0} → Layouts → Placing → Table D → ℕ → Type 0

@@ -2,7 +2,7 @@
 use Rattle.std.specs.Prelude.{ℕ, ◌-◌, List, [], ◌∷◌, ◌++◌, Option, length, take, replicate, slice_get, slice_set, slice_index_or}
 use Rattle.gc_owner.specs.declared.entry.GcClass.{GcClass}
 use Rattle.gc_model.specs.Values.{Reference}
-use Rattle.gc_model.specs.Table.{Table, Slot, empty_slot}
+use Rattle.gc_model.specs.Table.{Table, Slot, null_slot}
 
 -- the slots of the newest of some frames; none where there is no frame
 abbrev pub newest : {A : Type 0} → List (List A) → List A
@@ -22,7 +22,7 @@ changed index slot frames = slice_set frames (length frames - 1) (slice_set (new
 
 -- a frame of so many empty slots is opened
 abbrev pub push_frame : {D : Type 0} → ℕ → Table D → Table D
-push_frame count t = record t { frames = opened count empty_slot t.frames }
+push_frame count t = record t { frames = opened count null_slot t.frames }
 
 -- the newest frame is closed
 abbrev pub pop_frame : {D : Type 0} → Table D → Table D

@@ -7,7 +7,7 @@ use Rattle.gc_view.specs.Pages.{page}
 use Rattle.gc_view.specs.Sizes.{alignment}
 use Rattle.gc_model.specs.Table.{Table}
 use Rattle.gc_model.specs.Reach.{IsKept}
-use Rattle.gc_model.specs.Sizes.{block_at}
+use Rattle.gc_model.specs.Sizes.{block_bytes_at}
 use Rattle.gc_model.specs.Words.{Placing}
 
 -- Where the positions lie that a heap holds, as far as that is told: of a counting heap alone.
@@ -34,7 +34,7 @@ pub record IsGap {D : Type 0} (Lies : ℕ → ℕ → Type 0) (t : Table D) (pla
   pub aligned : place % alignment ≡ 0
   pub not_null : 0 < place
   pub inside : place + bytes ≤ page * t.pages
-  pub apart : (p word : ℕ) → Lies p word → (word + block_at Counting t p ≤ place) ⊎ (place + bytes ≤ word)
+  pub apart : (p word : ℕ) → Lies p word → (word + block_bytes_at Counting t p ≤ place) ⊎ (place + bytes ≤ word)
 
 -- There is such a gap for an object of that size.
 abbrev pub HasGap : {D : Type 0} → (ℕ → ℕ → Type 0) → Table D → ℕ → Type 0
@@ -43,4 +43,4 @@ HasGap Lies t size = (place : ℕ) × IsGap Lies t place (round_up size alignmen
 -- A place is the first that an object may have in a counting heap, or one of these objects ends there.
 pub data IsFront {D : Type 0} (Lies : ℕ → ℕ → Type 0) (t : Table D) (place : ℕ) : Type 0 where
   first : place ≡ alignment → IsFront Lies t place
-  behind : {p word : ℕ} → Lies p word → word + block_at Counting t p ≡ place → IsFront Lies t place
+  behind : {p word : ℕ} → Lies p word → word + block_bytes_at Counting t p ≡ place → IsFront Lies t place

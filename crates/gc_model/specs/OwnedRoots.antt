@@ -21,8 +21,8 @@ abbrev pub handles_changed : ℕ → (ℕ → ℕ) → List Owned → List Owned
 handles_changed number change roots = map (λ (root : Owned). if root.number == number then record root { handles = change root.handles } else root) roots
 
 -- those that have handles
-abbrev pub with_handles : List Owned → List Owned
-with_handles roots = filter (λ (root : Owned). not (root.handles == 0)) roots
+abbrev pub handled_roots : List Owned → List Owned
+handled_roots roots = filter (λ (root : Owned). not (root.handles == 0)) roots
 
 -- the owned root of that number has one more handle
 abbrev pub add_handle : {D : Type 0} → ℕ → Table D → Table D
@@ -30,7 +30,7 @@ add_handle number t = record t { owned = handles_changed number (λ n. n + 1) t.
 
 -- it has one fewer, and goes with its last
 abbrev pub drop_handle : {D : Type 0} → ℕ → Table D → Table D
-drop_handle number t = record t { owned = with_handles (handles_changed number (λ n. n - 1) t.owned) }
+drop_handle number t = record t { owned = handled_roots (handles_changed number (λ n. n - 1) t.owned) }
 
 -- No further owned root may be made: as many stand as may, or the count of those that were made is at its end.
 abbrev pub owned_full : {D : Type 0} → Table D → Bool

@@ -44,13 +44,13 @@ object_size layouts types (host value) = external_size layouts
 object_size layouts types (exception ty tag values) = exception_size layouts (exn_fields_at types ty)
 
 -- the bytes of an object, to the next multiple of 16; 0 where there is none
-abbrev pub block_of : {D : Type 0} → Layouts → List Declaration → Option (Object D) → ℕ
-block_of layouts types None = 0
-block_of layouts types (Some o) = round_up (object_size layouts types o) alignment
+abbrev pub block_bytes : {D : Type 0} → Layouts → List Declaration → Option (Object D) → ℕ
+block_bytes layouts types None = 0
+block_bytes layouts types (Some o) = round_up (object_size layouts types o) alignment
 
 -- those of the object at a position
-abbrev pub block_at : {D : Type 0} → Layouts → Table D → ℕ → ℕ
-block_at layouts t p = block_of layouts t.types (slice_get t.objects p)
+abbrev pub block_bytes_at : {D : Type 0} → Layouts → Table D → ℕ → ℕ
+block_bytes_at layouts t p = block_bytes layouts t.types (slice_get t.objects p)
 
 -- the bytes of an object as a copying heap takes them; 0 where there is none
 abbrev pub rounded_size : {D : Type 0} → List Declaration → Option (Object D) → ℕ

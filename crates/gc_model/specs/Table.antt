@@ -50,8 +50,8 @@ pub record Table (D : Type 0) : Type 0 where
   pub max_scoped : ℕ
   pub max_owned : ℕ
 
-abbrev pub empty_slot : Slot
-empty_slot = record { class = Any; reference = null }
+abbrev pub null_slot : Slot
+null_slot = record { class = Any; reference = null }
 
 -- how many scoped roots a store may have that is configured by its pages alone, and how many owned ones
 abbrev pub usual_roots : ℕ
@@ -67,7 +67,7 @@ start first max_scoped max_owned = record {
   drops = 0;
   owns = 0;
   frames = [];
-  globals = replicate global_count empty_slot;
+  globals = replicate global_count null_slot;
   owned = [];
   pending = None;
   interned = no_side_values;

@@ -10,7 +10,7 @@ use Rattle.gc_types.specs.declared.kind.VMGcKind.{VMGcKind}
 use Rattle.gc_types.specs.declared.kind.VMGcKind.TheVariants.{ExternRef, AnyRef, EqRef, StructRef, ArrayRef, ExnRef}
 use Rattle.gc_types.specs.Layouts.{struct_base, array_base}
 use Rattle.gc_refs.specs.LittleEndian.{unsigned_at}
-use Rattle.gc_refs.specs.Views.{IsInside, part_of, Reads}
+use Rattle.gc_refs.specs.Views.{IsInside, part_of, ReadsNumber}
 use Rattle.gc_refs.specs.declared.fault.DataFault.{DataFault}
 use Rattle.gc_view.specs.Heaps.{HeapObject, HeapView}
 use Rattle.gc_memory.specs.Lists.{In, here, there}
@@ -21,7 +21,7 @@ use Rattle.gc_heap.specs.Access.{IsReadable, data_part}
 use Rattle.gc_heap.proofs.AccessLemmas.{reads_data}
 use Rattle.gc_heap.proofs.WrittenLemmas.{writable_from}
 use Rattle.gc_memory.proofs.ListLemmas.{first_or_later, contains_in, in_contains}
-use Rattle.gc_mutator.specs.Fields.{HasWord, StepsTo, Leads, slot_word}
+use Rattle.gc_mutator.specs.Fields.{HasWord, StepsTo, Leads, word_or_null}
 
 element_in : (n from x : ℕ) → from ≤ x → (x - from) % 4 ≡ 0 → (x - from) / 4 < n → In x (word_offsets from n)
 element_in zero from x low aligned below = absurd (omega arith)
@@ -102,7 +102,7 @@ number_names_none layouts h word heap odd held =
 
 -- the word that lies at an offset of a held object, if it isn't null
 pub word_at : (layouts : Layouts) (h : HeapView) (place offset : ℕ) (o : HeapObject) (bytes : List ℕ) (read : Result ℕ DataFault) (number : ℕ) (made : Option ℕ) → get h.content place ≡ Some o → HasWord layouts o offset
-    → IsObjectData layouts o bytes → Reads 4 (unsigned_at w32) 0 bytes offset read → read ≡ Ok number → SomeIff made (0 < number) number → SomeIff made (HasWord layouts o offset × (0 < word_in layouts o offset)) (word_in layouts o offset)
+    → IsObjectData layouts o bytes → ReadsNumber 4 (unsigned_at w32) 0 bytes offset read → read ≡ Ok number → SomeIff made (0 < number) number → SomeIff made (HasWord layouts o offset × (0 < word_in layouts o offset)) (word_in layouts o offset)
 word_at layouts h place offset o bytes read number made held lies told reads is gives =
     let same : number ≡ word_in layouts o offset = reads_data (unsigned_at w32) layouts h place offset 4 bytes read number (word_readable layouts h place o offset held lies) (λ o' held'. subst (λ (x : HeapObject). IsObjectData layouts x bytes) (some_is o o' (sym held ∙ held')) told) reads is o held in
     by_made made (subst (λ n. SomeIff made (0 < n) n) same gives)
@@ -141,6 +141,6 @@ module _ (layouts : Layouts) (h : HeapView) (from offset : ℕ) (path : List ℕ
   leads_nowhere is = (λ next step. absurd (subst (λ m. SomeIff m (HasWord layouts step.object offset × (0 < word_in layouts step.object offset)) (word_in layouts step.object offset)) is (held step.object step.held) (step.lies, subst (λ n. 0 < n) step.is step.present)), λ known none. refl)
 
 -- the word that a slot stands for
-pub slot_of_raw : (made : Option ℕ) (word : ℕ) → SomeIff made (0 < word) word → slot_word made ≡ word
+pub slot_of_raw : (made : Option ℕ) (word : ℕ) → SomeIff made (0 < word) word → word_or_null made ≡ word
 slot_of_raw None word gives = let none : (0 < word → ⊥) = gives in omega arith
 slot_of_raw (Some held) word gives = gives.1

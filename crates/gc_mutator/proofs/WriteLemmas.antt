@@ -28,8 +28,8 @@ use Rattle.gc_heap.proofs.CountLemmas.{occurrences-append, once}
 use Rattle.gc_memory.proofs.ListLemmas.{contains_in, in_contains, map_in}
 use Rattle.gc_heap.proofs.StoredLemmas.{IsSlotOf, IsWrite, can_collect_word, can_collect_stored, can_collect_number}
 use Rattle.gc_heap.proofs.WrittenLemmas.{fits_data}
-use Rattle.gc_mutator.specs.Mutators.{MutatorView, word_of, source_word}
-use Rattle.gc_mutator.specs.Fields.{HasWord, HasReference, HasNumber, NamesNone, IsOfNumbers, slot_word, WritesNumber, WritesReference}
+use Rattle.gc_mutator.specs.Mutators.{MutatorView, word_at_root, source_word}
+use Rattle.gc_mutator.specs.Fields.{HasWord, HasReference, HasNumberWord, NamesNone, HasOnlyNumbers, word_or_null, WritesNumber, WritesReference}
 use Rattle.gc_mutator.proofs.MakeLemmas.{view}
 use Rattle.gc_heap.proofs.NameLemmas.{is_named}
 
@@ -39,7 +39,7 @@ occurs word (_ ∷ words) here = let both = occurrences-append word (word ∷ []
 occurs word (w ∷ words) (there i) = let both = occurrences-append word (w ∷ []) words in let later = occurs word words i in omega arith
 
 -- a slot as the heap's lemmas name it
-pub slot_is : (slot : Option ℕ) (word : ℕ) → slot_word slot ≡ word → IfSome slot (λ w. 0 < w) → IsSlotOf slot word
+pub slot_is : (slot : Option ℕ) (word : ℕ) → word_or_null slot ≡ word → IfSome slot (λ w. 0 < w) → IsSlotOf slot word
 slot_is None word is present = sym is
 slot_is (Some held) word is present = (is, omega arith)
 
@@ -49,7 +49,7 @@ module _ (types : List Declaration) (h : HeapView) (roots : List Root) (hosts : 
   old_in = map_in (word_in Counting o) (reference_offsets Counting types o) offset (contains_in (reference_offsets Counting types o) offset among)
 
   -- a heap that counts may give up the word that a reference holds
-  can_lower : (slot : Option ℕ) → slot_word slot ≡ word_in Counting o offset → IfSome slot (λ w. 0 < w) → CanUnnameSlot h slot
+  can_lower : (slot : Option ℕ) → word_or_null slot ≡ word_in Counting o offset → IfSome slot (λ w. 0 < w) → CanUnnameSlot h slot
   can_lower None is present = tt
   can_lower (Some held_word) is present =
       let word : ℕ = word_in Counting o offset in
@@ -74,7 +74,7 @@ copying_other e = cc
 
 -- what is overwritten may be told to the heap
 pub can_overwrite : (layouts : Layouts) (types : List Declaration) (h : HeapView) (roots : List Root) (hosts : ℕ → Bool) (place : ℕ) (o : HeapObject) (offset : ℕ) (slot : Option ℕ) → IsHeap layouts h → CanCollect layouts (start h roots types hosts)
-    → get h.content place ≡ Some o → HasReference layouts types o offset → (layouts ≡ Counting → slot_word slot ≡ word_in layouts o offset) → IfSome slot (λ w. 0 < w) → ((layouts ≡ Counting → ⊥) → slot ≡ None) → CanUnnameSlot h slot
+    → get h.content place ≡ Some o → HasReference layouts types o offset → (layouts ≡ Counting → word_or_null slot ≡ word_in layouts o offset) → IfSome slot (λ w. 0 < w) → ((layouts ≡ Counting → ⊥) → slot ≡ None) → CanUnnameSlot h slot
 can_overwrite Null types h roots hosts place o offset slot heap can held lies told present others = none_slot h slot (others null_other)
 can_overwrite Counting types h roots hosts place o offset slot heap can held lies told present others = can_lower types h roots hosts place o offset heap can held lies.among slot (told refl) present
 can_overwrite Copying types h roots hosts place o offset slot heap can held lies told present others = none_slot h slot (others copying_other)
@@ -132,7 +132,7 @@ module _ (layouts : Layouts) (types : List Declaration) (h middle : HeapView) (r
   pub writable_then : IsWritable layouts middle place offset 4
   writable_then = record { object = o; held = held_then; from = lies.word.from; to = lies.word.to }
 
-  pub reference_stored : (h' : HeapView) (word : ℕ) → CanCollect layouts (start h roots types hosts) → word < 2 ^ 32 → word ≡ slot_word source → IsWordOf h (slot_word source) → (layouts ≡ Counting → slot_word slot ≡ word_in layouts o offset)
+  pub reference_stored : (h' : HeapView) (word : ℕ) → CanCollect layouts (start h roots types hosts) → word < 2 ^ 32 → word ≡ word_or_null source → IsWordOf h (word_or_null source) → (layouts ≡ Counting → word_or_null slot ≡ word_in layouts o offset)
       → IfSome slot (λ w. 0 < w) → IfSome source (λ w. 0 < w) → h' ≡ put_object middle place (with_data layouts o offset (to_le_bytes w32 word)) → CanCollect layouts (start h' roots types hosts)
   reference_stored h' word can small is names told filled present written =
       subst (λ (v : HeapView). CanCollect layouts (start v roots types hosts)) (sym (written ∙ ap (λ (v : HeapView). put_object v place (with_data layouts o offset (to_le_bytes w32 word))) seen))
@@ -167,31 +167,31 @@ traced_none types o (inl none) = ap (λ (n : ℕ). traced_offsets types (record 
 traced_none types o (inr plain) = ap (λ (n : ℕ). traced_offsets types (record o { spare = n })) plain
 
 -- an object of numbers alone has no references
-pub numbers_alone : (layouts : Layouts) (types : List Declaration) (o : HeapObject) → IsOfNumbers layouts types o → reference_offsets layouts types o ≡ []
+pub numbers_alone : (layouts : Layouts) (types : List Declaration) (o : HeapObject) → HasOnlyNumbers layouts types o → reference_offsets layouts types o ≡ []
 numbers_alone Null types o none = typed_none Null types o o.kind none
 numbers_alone Counting types o none = typed_none Counting types o o.kind none
 numbers_alone Copying types o none = traced_none types o none
 
 -- whether a held object is one, where its heap traces it by its type, and where by its trace word
 pub tells_typed : (layouts kind : Layouts) (types : List Declaration) (o : HeapObject) (info : Option TraceInfo) (answer : Bool) → (kind ≡ Null) ⊎ (kind ≡ Counting) → kind ≡ layouts → info ≡ trace_at layouts types o.ty → (IsTrue answer ↔ NamesNone info)
-    → (IsTrue answer ↔ IsOfNumbers layouts types o)
+    → (IsTrue answer ↔ HasOnlyNumbers layouts types o)
 tells_typed layouts kind types o info answer (inl null) is told tells =
-    subst (λ l. IsTrue answer ↔ IsOfNumbers l types o) (sym null ∙ is) (subst (λ i. IsTrue answer ↔ NamesNone i) (told ∙ ap (λ l. trace_at l types o.ty) (sym is ∙ null)) tells)
+    subst (λ l. IsTrue answer ↔ HasOnlyNumbers l types o) (sym null ∙ is) (subst (λ i. IsTrue answer ↔ NamesNone i) (told ∙ ap (λ l. trace_at l types o.ty) (sym is ∙ null)) tells)
 tells_typed layouts kind types o info answer (inr counting) is told tells =
-    subst (λ l. IsTrue answer ↔ IsOfNumbers l types o) (sym counting ∙ is) (subst (λ i. IsTrue answer ↔ NamesNone i) (told ∙ ap (λ l. trace_at l types o.ty) (sym is ∙ counting)) tells)
+    subst (λ l. IsTrue answer ↔ HasOnlyNumbers l types o) (sym counting ∙ is) (subst (λ i. IsTrue answer ↔ NamesNone i) (told ∙ ap (λ l. trace_at l types o.ty) (sym is ∙ counting)) tells)
 
-pub tells_traced : (layouts kind : Layouts) (types : List Declaration) (o : HeapObject) (word : ℕ) (answer : Bool) → kind ≡ Copying → kind ≡ layouts → o.spare ≡ word → (IsTrue answer ↔ ((word ≡ 0) ⊎ (word ≡ form_unit))) → (IsTrue answer ↔ IsOfNumbers layouts types o)
+pub tells_traced : (layouts kind : Layouts) (types : List Declaration) (o : HeapObject) (word : ℕ) (answer : Bool) → kind ≡ Copying → kind ≡ layouts → o.spare ≡ word → (IsTrue answer ↔ ((word ≡ 0) ⊎ (word ≡ form_unit))) → (IsTrue answer ↔ HasOnlyNumbers layouts types o)
 tells_traced layouts kind types o word answer copying is spare tells =
-    subst (λ l. IsTrue answer ↔ IsOfNumbers l types o) (sym copying ∙ is) (subst (λ w. IsTrue answer ↔ ((w ≡ 0) ⊎ (w ≡ form_unit))) (sym spare) tells)
+    subst (λ l. IsTrue answer ↔ HasOnlyNumbers l types o) (sym copying ∙ is) (subst (λ w. IsTrue answer ↔ ((w ≡ 0) ⊎ (w ≡ form_unit))) (sym spare) tells)
 
 pub spare_of : (layouts kind : Layouts) (o : HeapObject) (bits : ℕ) → kind ≡ Copying → kind ≡ layouts → SpareIs layouts o bits → o.spare ≡ bits
 spare_of layouts kind o bits copying is spare = sym (subst (λ l. SpareIs l o bits) (sym is ∙ copying) spare)
 
 -- what the calls that write say of the mutator
-pub number_written : (layouts : Layouts) (m : MutatorView) (h h' : HeapView) (roots : List Root) (types : List Declaration) (hosts : FinMap nat_cmp ℕ) (holder place : ℕ) (o : HeapObject) (offset number : ℕ) → view h roots types hosts ≡ m → place ≡ word_of m holder → holder < length m.roots
-    → get h.content place ≡ Some o → HasNumber layouts types o offset → h' ≡ put_object h place (with_data layouts o offset (to_le_bytes w32 number)) → WritesNumber layouts m (view h' roots types hosts) holder offset number
+pub number_written : (layouts : Layouts) (m : MutatorView) (h h' : HeapView) (roots : List Root) (types : List Declaration) (hosts : FinMap nat_cmp ℕ) (holder place : ℕ) (o : HeapObject) (offset number : ℕ) → view h roots types hosts ≡ m → place ≡ word_at_root m holder → holder < length m.roots
+    → get h.content place ≡ Some o → HasNumberWord layouts types o offset → h' ≡ put_object h place (with_data layouts o offset (to_le_bytes w32 number)) → WritesNumber layouts m (view h' roots types hosts) holder offset number
 number_written layouts m h h' roots types hosts holder place o offset number is at stands held lies written =
-    let root : word_of (view h roots types hosts) holder ≡ place = ap (λ (v : MutatorView). word_of v holder) is ∙ sym at in
+    let root : word_at_root (view h roots types hosts) holder ≡ place = ap (λ (v : MutatorView). word_at_root v holder) is ∙ sym at in
     subst (λ (v : MutatorView). WritesNumber layouts v (view h' roots types hosts) holder offset number) is (record {
       stands = subst (λ (v : MutatorView). holder < length v.roots) (sym is) stands;
       object = o;
@@ -201,10 +201,10 @@ number_written layouts m h h' roots types hosts holder place o offset number is 
     })
 
 pub reference_written : (layouts : Layouts) (m : MutatorView) (h middle h' : HeapView) (roots : List Root) (types : List Declaration) (hosts : FinMap nat_cmp ℕ) (holder place : ℕ) (o : HeapObject) (offset word : ℕ) (slot written_word : Option ℕ) (source : Option ℕ)
-    → view h roots types hosts ≡ m → place ≡ word_of m holder → holder < length m.roots → get h.content place ≡ Some o → HasReference layouts types o offset → written_word ≡ source_word m source → (layouts ≡ Counting → slot_word slot ≡ word_in layouts o offset)
-    → middle ≡ overwritten h slot written_word → word ≡ slot_word written_word → h' ≡ put_object middle place (with_data layouts o offset (to_le_bytes w32 word)) → WritesReference layouts m (view h' roots types hosts) holder offset (source_word m source)
+    → view h roots types hosts ≡ m → place ≡ word_at_root m holder → holder < length m.roots → get h.content place ≡ Some o → HasReference layouts types o offset → written_word ≡ source_word m source → (layouts ≡ Counting → word_or_null slot ≡ word_in layouts o offset)
+    → middle ≡ overwritten h slot written_word → word ≡ word_or_null written_word → h' ≡ put_object middle place (with_data layouts o offset (to_le_bytes w32 word)) → WritesReference layouts m (view h' roots types hosts) holder offset (source_word m source)
 reference_written layouts m h middle h' roots types hosts holder place o offset word slot written_word source is at stands held lies word_is told seen raw written =
-    let root : word_of (view h roots types hosts) holder ≡ place = ap (λ (v : MutatorView). word_of v holder) is ∙ sym at in
+    let root : word_at_root (view h roots types hosts) holder ≡ place = ap (λ (v : MutatorView). word_at_root v holder) is ∙ sym at in
     subst (WritesReference layouts m (view h' roots types hosts) holder offset) word_is
     (subst (λ (v : MutatorView). WritesReference layouts v (view h' roots types hosts) holder offset written_word) is (record {
       stands = subst (λ (v : MutatorView). holder < length v.roots) (sym is) stands;
@@ -215,5 +215,5 @@ reference_written layouts m h middle h' roots types hosts holder place o offset 
       told = told;
       written = ap (λ (v : HeapView). view v roots types hosts)
           (written ∙ ap (λ (v : HeapView). put_object v place (with_data layouts o offset (to_le_bytes w32 word))) seen ∙ ap (λ n. put_object (overwritten h slot written_word) place (with_data layouts o offset (to_le_bytes w32 n))) raw
-          ∙ ap (λ p. put_object (overwritten h slot written_word) p (with_data layouts o offset (to_le_bytes w32 (slot_word written_word)))) (sym root));
+          ∙ ap (λ p. put_object (overwritten h slot written_word) p (with_data layouts o offset (to_le_bytes w32 (word_or_null written_word)))) (sym root));
     }))

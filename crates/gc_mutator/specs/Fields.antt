@@ -16,7 +16,7 @@ use Rattle.gc_heap.specs.References.{typed_offsets, word_in}
 use Rattle.gc_heap.specs.Heap.{put_object, with_data}
 use Rattle.gc_heap.specs.Content.{IsHeld}
 use Rattle.gc_heap.specs.Barriers.{overwritten}
-use Rattle.gc_mutator.specs.Mutators.{MutatorView, word_of}
+use Rattle.gc_mutator.specs.Mutators.{MutatorView, word_at_root}
 
 -- Four bytes at an offset of an object lie in the part that its holder may write.
 pub record HasWord (layouts : Layouts) (o : HeapObject) (offset : ℕ) : Type 0 where
@@ -38,38 +38,38 @@ NamesNone (Some (trace.Array elements_are_references)) = elements_are_references
 
 -- an object is of numbers alone: by its type, or in a copying heap by its trace word, which is an empty
 -- bitmap or that of an array of numbers
-abbrev pub IsOfNumbers : Layouts → List Declaration → HeapObject → Type 0
-IsOfNumbers Null types o = NamesNone (trace_at Null types o.ty)
-IsOfNumbers Counting types o = NamesNone (trace_at Counting types o.ty)
-IsOfNumbers Copying types o = (o.spare ≡ 0) ⊎ (o.spare ≡ form_unit)
+abbrev pub HasOnlyNumbers : Layouts → List Declaration → HeapObject → Type 0
+HasOnlyNumbers Null types o = NamesNone (trace_at Null types o.ty)
+HasOnlyNumbers Counting types o = NamesNone (trace_at Counting types o.ty)
+HasOnlyNumbers Copying types o = (o.spare ≡ 0) ⊎ (o.spare ≡ form_unit)
 
 -- a number may be written at that offset of an object
-abbrev pub HasNumber : Layouts → List Declaration → HeapObject → ℕ → Type 0
-HasNumber layouts types o offset = HasWord layouts o offset × IsOfNumbers layouts types o
+abbrev pub HasNumberWord : Layouts → List Declaration → HeapObject → ℕ → Type 0
+HasNumberWord layouts types o offset = HasWord layouts o offset × HasOnlyNumbers layouts types o
 
 -- a slot that holds a word: none where it is null
-abbrev pub slot_word : Option ℕ → ℕ
-slot_word None = 0
-slot_word (Some word) = word
+abbrev pub word_or_null : Option ℕ → ℕ
+word_or_null None = 0
+word_or_null (Some word) = word
 
 -- The word of a root, or null, was written to a field of the object that another root names. A heap that
 -- counts was told what the field held before.
 pub record WritesReference (layouts : Layouts) (old new : MutatorView) (holder offset : ℕ) (source : Option ℕ) : Type 0 where
   pub stands : holder < length old.roots
   pub object : HeapObject
-  pub held : get old.heap.content (word_of old holder) ≡ Some object
+  pub held : get old.heap.content (word_at_root old holder) ≡ Some object
   pub lies : HasReference layouts old.types object offset
   pub slot : Option ℕ
-  pub told : layouts ≡ Counting → slot_word slot ≡ word_in layouts object offset
-  pub written : new ≡ record old { heap = put_object (overwritten old.heap slot source) (word_of old holder) (with_data layouts object offset (to_le_bytes w32 (slot_word source))) }
+  pub told : layouts ≡ Counting → word_or_null slot ≡ word_in layouts object offset
+  pub written : new ≡ record old { heap = put_object (overwritten old.heap slot source) (word_at_root old holder) (with_data layouts object offset (to_le_bytes w32 (word_or_null source))) }
 
 -- A number was written to the object that a root names.
 pub record WritesNumber (layouts : Layouts) (old new : MutatorView) (holder offset number : ℕ) : Type 0 where
   pub stands : holder < length old.roots
   pub object : HeapObject
-  pub held : get old.heap.content (word_of old holder) ≡ Some object
-  pub lies : HasNumber layouts old.types object offset
-  pub written : new ≡ record old { heap = put_object old.heap (word_of old holder) (with_data layouts object offset (to_le_bytes w32 number)) }
+  pub held : get old.heap.content (word_at_root old holder) ≡ Some object
+  pub lies : HasNumberWord layouts old.types object offset
+  pub written : new ≡ record old { heap = put_object old.heap (word_at_root old holder) (with_data layouts object offset (to_le_bytes w32 number)) }
 
 -- A word that isn't null lies at an offset of the object that a word names, in the part that its
 -- holder may write.

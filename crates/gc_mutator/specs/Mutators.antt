@@ -22,17 +22,17 @@ abbrev pub max_roots : ℕ
 max_roots = 2 ^ 31
 
 -- where a collection would begin
-abbrev pub start_of : MutatorView → Start
-start_of m = start_at m.heap m.roots m.types m.hosts
+abbrev pub mutator_start : MutatorView → Start
+mutator_start m = start_at m.heap m.roots m.types m.hosts
 
 -- The heap is sound, and a collection may begin.
-pub record IsReady (layouts : Layouts) (heap_is_sound : Type 0) (m : MutatorView) : Type 0 where
+pub record IsMutatorReady (layouts : Layouts) (heap_is_sound : Type 0) (m : MutatorView) : Type 0 where
   pub sound : heap_is_sound
-  pub can : CanCollect layouts (start_of m)
+  pub can : CanCollect layouts (mutator_start m)
 
 -- the word of a root
-abbrev pub word_of : MutatorView → ℕ → ℕ
-word_of m index = (root_at m.roots index).word
+abbrev pub word_at_root : MutatorView → ℕ → ℕ
+word_at_root m index = (root_at m.roots index).word
 
 -- the word that a root holds from the time on when it was given up: a 31-bit number
 abbrev pub gone_word : ℕ
@@ -52,16 +52,16 @@ IsRoot on_stack m index = (index < length m.roots) × ((root_at m.roots index).o
 
 -- a root of that index stands, and names an object
 abbrev pub NamesObject : MutatorView → ℕ → Type 0
-NamesObject m index = (index < length m.roots) × IsHeld m.heap (word_of m index)
+NamesObject m index = (index < length m.roots) × IsHeld m.heap (word_at_root m index)
 
 -- A root of that index stands, and names an object that is such.
 pub record NamesSuch (m : MutatorView) (index : ℕ) (is_such : HeapObject → Type 0) : Type 0 where
   pub stands : index < length m.roots
   pub object : HeapObject
-  pub held : get m.heap.content (word_of m index) ≡ Some object
+  pub held : get m.heap.content (word_at_root m index) ≡ Some object
   pub such : is_such object
 
 -- the word of a root that is written to a field; none is null
 abbrev pub source_word : MutatorView → Option ℕ → Option ℕ
 source_word m None = None
-source_word m (Some index) = Some (word_of m index)
+source_word m (Some index) = Some (word_at_root m index)

@@ -2,7 +2,7 @@
 
 ghost use Rattle.std.specs.Prelude.{ℕ, Bool, ◌≡◌, ◌-◌, ◌^◌, min};
 ghost use Rattle.gc_heap.specs.Collection.{Start, Collected, has_host, IsIncrements, IsPartOf, stage};
-ghost use Rattle.gc_mutator.specs.Mutators.{start_of};
+ghost use Rattle.gc_mutator.specs.Mutators.{mutator_start};
 
 use crate::mutator::Mutator;
 use gc_heap::{GcHeap, GcProgress, GcStoreTraceState};
@@ -43,8 +43,8 @@ impl<H: GcHeap> Mutator<H> {
     /// Collects, and says how many increments it took: exactly so many as the kind of heap takes, up to
     /// the greatest u64. The host values that stay are as they were.
     pub fn collect(&mut self) -> u64
-        ensures collected { Collected H.KIND (start_of self.old) self.new.heap self.new.roots (has_host self.new.hosts) }
-        ensures increments { (n : ℕ) × (IsIncrements H.KIND (start_of self.old) n × (result ≡ min n (2 ^ 64 - 1))) }
+        ensures collected { Collected H.KIND (mutator_start self.old) self.new.heap self.new.roots (has_host self.new.hosts) }
+        ensures increments { (n : ℕ) × (IsIncrements H.KIND (mutator_start self.old) n × (result ≡ min n (2 ^ 64 - 1))) }
         ensures values { IsPartOf self.new.hosts self.old.hosts }
         ensures types { self.new.types ≡ self.old.types }
     {

@@ -17,8 +17,8 @@ ghost use Rattle.gc_heap.specs.Content.{IsHeld};
 ghost use Rattle.gc_heap.specs.Access.{IsReadable};
 ghost use Rattle.gc_heap.specs.Barriers.{CanNameSlot};
 ghost use Rattle.gc_heap.specs.Collection.{IsWordOf};
-ghost use Rattle.gc_mutator.specs.Mutators.{word_of, source_word};
-ghost use Rattle.gc_mutator.specs.Fields.{HasWord, HasReference, HasNumber, IsOfNumbers, NamesNone, slot_word, WritesReference, WritesNumber};
+ghost use Rattle.gc_mutator.specs.Mutators.{word_at_root, source_word};
+ghost use Rattle.gc_mutator.specs.Fields.{HasWord, HasReference, HasNumberWord, HasOnlyNumbers, NamesNone, word_or_null, WritesReference, WritesNumber};
 ghost use Rattle.gc_mutator.specs.Refusals.{CanBeSource, RefusesSource, RefusesReference, RefusesObject};
 
 use crate::fault::MutatorFault;
@@ -122,7 +122,7 @@ fn overwritten_word<H: GcHeap>(heap: &H, holder: &VMGcRef, offset: u32) -> Optio
     requires sound { H.sound heap.now }
     requires inside { IsReadable H.KIND (H.seen heap.now) holder.now offset 4 }
     ensures counting { (o : HeapObject) → finite.get (H.seen heap.now).content holder.now ≡ Some o → H.KIND ≡ Counting
-        → slot_word result ≡ word_in H.KIND o offset }
+        → word_or_null result ≡ word_in H.KIND o offset }
     ensures present { IfSome result (λ word. 0 < word) }
     ensures others { (H.KIND ≡ Counting → ⊥) → result ≡ None }
 {
@@ -134,7 +134,7 @@ fn overwritten_word<H: GcHeap>(heap: &H, holder: &VMGcRef, offset: u32) -> Optio
 
 /// The number that stands for a slot.
 fn raw_word(slot: &Option<VMGcRef>) -> u32
-    ensures { result ≡ slot_word slot.now }
+    ensures { result ≡ word_or_null slot.now }
 {
     match slot {
         Some(word) => word.as_raw_u32(),
@@ -170,7 +170,7 @@ fn traces_nothing(word: u32) -> bool
 fn is_plain<H: GcHeap>(heap: &H, types: &Types, holder: &VMGcRef) -> bool
     requires sound { H.sound heap.now }
     requires held { IsHeld (H.seen heap.now) holder.now }
-    ensures { (o : HeapObject) → finite.get (H.seen heap.now).content holder.now ≡ Some o → IsTrue result ↔ IsOfNumbers H.KIND types.now.declarations o }
+    ensures { (o : HeapObject) → finite.get (H.seen heap.now).content holder.now ≡ Some o → IsTrue result ↔ HasOnlyNumbers H.KIND types.now.declarations o }
 {
     let Ok(header) = heap.header(holder) else {
         return false;
@@ -188,7 +188,7 @@ impl<H: GcHeap> Mutator<H> {
     fn source(&self, source: Option<usize>) -> Result<Option<VMGcRef>, MutatorFault>
         ensures word { IfOk result (λ word. word ≡ source_word self.now source) }
         ensures can { IfOk result (λ word. CanNameSlot self.now.heap word) }
-        ensures names { IfOk result (λ word. IsWordOf self.now.heap (slot_word word)) }
+        ensures names { IfOk result (λ word. IsWordOf self.now.heap (word_or_null word)) }
         ensures present { IfOk result (λ word. IfSome word (λ w. 0 < w)) }
         ensures writes { OnOk result (CanBeSource self.now source) }
         ensures why { IfErr result (RefusesSource self.now source) }
@@ -249,7 +249,7 @@ impl<H: GcHeap> Mutator<H> {
         number: u32,
     ) -> Result<(), MutatorFault>
         ensures written { OnOk result (WritesNumber H.KIND self.old self.new holder offset number) }
-        ensures why { IfErr result (RefusesObject self.old holder (λ o. HasNumber H.KIND self.old.types o offset)) }
+        ensures why { IfErr result (RefusesObject self.old holder (λ o. HasNumberWord H.KIND self.old.types o offset)) }
         ensures err { OnErr result (self.new ≡ self.old) }
     {
         let Some(object) = self.object(holder) else {

@@ -26,7 +26,7 @@ pub struct Mutator<H: GcHeap> {
 impl<H: GcHeap> Model for Mutator<H> {
     ghost use Rattle.std.specs.Coded.{codes};
     ghost use Rattle.std.specs.FinMap as map;
-    ghost use Rattle.gc_mutator.specs.Mutators.{MutatorView, IsReady};
+    ghost use Rattle.gc_mutator.specs.Mutators.{MutatorView, IsMutatorReady};
 
     ghost Value = { MutatorView };
 
@@ -34,7 +34,7 @@ impl<H: GcHeap> Model for Mutator<H> {
 
     ghost view = { λ m. record { heap = H.seen m.heap; roots = m.roots.roots; types = m.types.declarations; hosts = m.hosts.entries } };
 
-    ghost invariant = { λ m. IsReady H.KIND (H.sound m.heap) (record { heap = H.seen m.heap; roots = m.roots.roots; types = m.types.declarations; hosts = m.hosts.entries }) };
+    ghost invariant = { λ m. IsMutatorReady H.KIND (H.sound m.heap) (record { heap = H.seen m.heap; roots = m.roots.roots; types = m.types.declarations; hosts = m.hosts.entries }) };
 }
 
 impl<H: GcHeap + Drop> Mutator<H> {

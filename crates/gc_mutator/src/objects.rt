@@ -2,7 +2,7 @@
 
 ghost use Rattle.std.specs.Prelude.{◌≡◌, ◌≤◌, ◌<◌, ◌^◌, ◌↔◌, OnOk, OnErr, IfErr, IsErrOf, None, length};
 ghost use Rattle.gc_types.specs.Layouts.{layout_at, array_layout_at};
-ghost use Rattle.gc_mutator.specs.Makes.{Roots, MakesStruct, MakesArray, MakesHost};
+ghost use Rattle.gc_mutator.specs.Makes.{RootsMade, MakesStruct, MakesArray, MakesExternal};
 
 use crate::fault::MutatorFault;
 use crate::mutator::Mutator;
@@ -20,7 +20,7 @@ fn root_new(
     made: Result<Result<VMGcRef, u64>, HeapFault>,
 ) -> Result<usize, MutatorFault>
     requires { 0 < roots.old.spare }
-    ensures { Roots made roots.old.roots roots.new.roots result }
+    ensures { RootsMade made roots.old.roots roots.new.roots result }
 {
     match made {
         Ok(Ok(object)) => {
@@ -77,7 +77,7 @@ impl<H: GcHeap> Mutator<H> {
     /// whose object found no room is taken back. `Full` where there are 2^31 roots, and else, but for want
     /// of memory, where there are 2^31 host values; after that it is refused as a struct is.
     pub fn make_host(&mut self, value: u8) -> Result<usize, MutatorFault>
-        ensures { MakesHost H.KIND self.old self.new value result }
+        ensures { MakesExternal H.KIND self.old self.new value result }
     {
         match make_room(&mut self.roots) {
             Ok(()) => {}

@@ -10,7 +10,7 @@ ghost use Rattle.gc_view.specs.Heaps.{HeapObject};
 ghost use Rattle.gc_heap.specs.Objects.{host_id};
 ghost use Rattle.gc_heap.specs.References.{word_in};
 ghost use Rattle.gc_heap.specs.Access.{ReadsData};
-ghost use Rattle.gc_mutator.specs.Mutators.{word_of, NamesObject, NamesSuch};
+ghost use Rattle.gc_mutator.specs.Mutators.{word_at_root, NamesObject, NamesSuch};
 ghost use Rattle.gc_mutator.specs.Fields.{HasWord, Leads};
 ghost use Rattle.gc_mutator.specs.Refusals.{RefusesObject};
 
@@ -52,7 +52,7 @@ impl<H: GcHeap> Mutator<H> {
 
     /// The word of a root.
     pub fn root(&self, index: usize) -> Option<VMGcRef>
-        ensures some { IfSome result (λ word. (index < length self.now.roots) × (word ≡ word_of self.now index)) }
+        ensures some { IfSome result (λ word. (index < length self.now.roots) × (word ≡ word_at_root self.now index)) }
         ensures none { IfNone result (length self.now.roots ≤ index) }
     {
         let _heap = &self.heap;
@@ -65,7 +65,7 @@ impl<H: GcHeap> Mutator<H> {
 
     /// The word of a root that names an object.
     pub(crate) fn object(&self, index: usize) -> Option<VMGcRef>
-        ensures some { IfSome result (λ word. (word ≡ word_of self.now index) × IsHeld self.now.heap word) }
+        ensures some { IfSome result (λ word. (word ≡ word_at_root self.now index) × IsHeld self.now.heap word) }
         ensures stands { OnSome result (index < length self.now.roots) }
         ensures none { IfNone result (¬ NamesObject self.now index) }
     {
@@ -83,7 +83,7 @@ impl<H: GcHeap> Mutator<H> {
     /// the path goes on from a 31-bit number or from an object with no word at the next offset.
     pub fn follow(&self, root: usize, path: &[u32]) -> Option<VMGcRef>
         ensures no_root { length self.now.roots ≤ root → result ≡ None }
-        ensures leads { root < length self.now.roots → Leads H.KIND self.now.heap (word_of self.now root) path.now result }
+        ensures leads { root < length self.now.roots → Leads H.KIND self.now.heap (word_at_root self.now root) path.now result }
     {
         let mut word = self.root(root)?;
         for offset in path {
@@ -96,7 +96,7 @@ impl<H: GcHeap> Mutator<H> {
     /// where the root names no object, and else `NoField` exactly where no word lies at that offset in the
     /// part that the object's holder may write.
     pub fn number(&self, index: usize, offset: u32) -> Result<u32, MutatorFault>
-        ensures number { IfOk result (λ number. ReadsData H.KIND self.now.heap (word_of self.now index) offset 4 (unsigned_at w32) number) }
+        ensures number { IfOk result (λ number. ReadsData H.KIND self.now.heap (word_at_root self.now index) offset 4 (unsigned_at w32) number) }
         ensures field { OnOk result (NamesSuch self.now index (λ o. HasWord H.KIND o offset)) }
         ensures why { IfErr result (RefusesObject self.now index (λ o. HasWord H.KIND o offset)) }
     {

@@ -4,7 +4,7 @@ ghost use Rattle.std.specs.Prelude.{◌≡◌, ◌≤◌, ◌<◌, ◌^◌, ◌%
 ghost use Rattle.gc_refs.specs.Words.{i31_word, i31_numbers};
 ghost use Rattle.gc_roots.specs.Roots.{root_at};
 ghost use Rattle.gc_heap.specs.Barriers.{cloned, dropped, exposed};
-ghost use Rattle.gc_mutator.specs.Mutators.{max_roots, word_of, with_root, without_root, gone_word, IsRoot};
+ghost use Rattle.gc_mutator.specs.Mutators.{max_roots, word_at_root, with_root, without_root, gone_word, IsRoot};
 ghost use Rattle.gc_mutator.specs.Refusals.{RefusesRoot, CanCopy, RefusesCopy};
 
 use crate::fault::MutatorFault;
@@ -69,7 +69,7 @@ impl<H: GcHeap> Mutator<H> {
     /// root of that index, and else `Full` exactly where there are 2^31 roots.
     pub fn copy_root(&mut self, index: usize) -> Result<usize, MutatorFault>
         ensures copied { IfOk result (λ copy. (copy ≡ length self.old.roots)
-            × (self.new ≡ with_root self.old (cloned self.old.heap (word_of self.old index)) false (word_of self.old index))) }
+            × (self.new ≡ with_root self.old (cloned self.old.heap (word_at_root self.old index)) false (word_at_root self.old index))) }
         ensures no_root { IsErrOf result MutatorFault.NoRoot ↔ (length self.old.roots ≤ index) }
         ensures can { OnOk result (CanCopy self.old.roots index) }
         ensures why { IfErr result (RefusesCopy self.old.roots index) }
@@ -108,7 +108,7 @@ impl<H: GcHeap> Mutator<H> {
     /// Gives a root up that is no frame slot; `NoRoot` exactly where it is none. The other roots keep their
     /// indexes: in its place stands a 31-bit number from then on.
     pub fn drop_root(&mut self, index: usize) -> Result<(), MutatorFault>
-        ensures dropped { OnOk result (self.new ≡ without_root self.old (dropped self.old.heap (word_of self.old index)) index) }
+        ensures dropped { OnOk result (self.new ≡ without_root self.old (dropped self.old.heap (word_at_root self.old index)) index) }
         ensures no_root { IsErrOf result MutatorFault.NoRoot ↔ (¬ IsRoot false self.old index) }
         ensures why { IsOkUnless result MutatorFault.NoRoot }
         ensures err { OnErr result (self.new ≡ self.old) }
@@ -127,8 +127,8 @@ impl<H: GcHeap> Mutator<H> {
     /// is refused where `copy_root` is.
     pub fn show_root(&mut self, index: usize) -> Result<usize, MutatorFault>
         ensures shown { IfOk result (λ slot. (slot ≡ length self.old.roots)
-            × (self.new ≡ with_root self.old (exposed (cloned self.old.heap (word_of self.old index)) (word_of self.old index)) true
-            (word_of self.old index))) }
+            × (self.new ≡ with_root self.old (exposed (cloned self.old.heap (word_at_root self.old index)) (word_at_root self.old index)) true
+            (word_at_root self.old index))) }
         ensures no_root { IsErrOf result MutatorFault.NoRoot ↔ (length self.old.roots ≤ index) }
         ensures can { OnOk result (CanCopy self.old.roots index) }
         ensures why { IfErr result (RefusesCopy self.old.roots index) }

@@ -16,7 +16,7 @@ use Rattle.gc_values.specs.declared.root.RootedObject.TheVariants as rooted_obje
 use Rattle.gc_store.specs.Roots.{is_of_store, NamesReference, FindsRoot, HasValue, CanRead}
 use Rattle.gc_objects.specs.declared.places.NamedArray.{NamedArray}
 use Rattle.gc_objects.specs.Answered.{Answers, IsNamedArray}
-use Rattle.gc_objects.specs.Reads.{IsOutside, IsTypedAt, IsTyped}
+use Rattle.gc_objects.specs.Reads.{IsOutside, IsTypedAt, IsTypedSomewhere}
 use Rattle.gc_objects.specs.Writes.{HasType}
 use Rattle.gc_objects.proofs.Questions.{tells_array}
 
@@ -89,7 +89,7 @@ module _ {D : Type 0} (layouts : Layouts) (s : StoreView D) (root : GcRootIndex)
       let there = element_there s found.table root which array_found_at index within in
       record { table = found.table; holds = found.holds; value = there.0; has = there.1 }
 
-  pub element_found : (index : ℕ) (element : FieldType) → elem_at s.types which.ty ≡ Some element → index < which.len → IsTyped D layouts s root index element
+  pub element_found : (index : ℕ) (element : FieldType) → elem_at s.types which.ty ≡ Some element → index < which.len → IsTypedSomewhere D layouts s root index element
   element_found index element declared within = record {
     table = found.table;
     holds = found.holds;

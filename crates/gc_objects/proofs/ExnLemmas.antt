@@ -24,12 +24,12 @@ use Rattle.gc_values.specs.declared.root.RootFault.{RootFault}
 use Rattle.gc_values.specs.declared.root.RootedObject.{RootedObject}
 use Rattle.gc_values.specs.declared.root.RootedObject.TheVariants as rooted_object
 use Rattle.gc_store.specs.Roots.{is_of_store, NamesReference, IsReference, IsObject, FindsRoot}
-use Rattle.gc_store.specs.Kinds.{object_kind, IsOfKind, NamesKind}
+use Rattle.gc_store.specs.Kinds.{object_kind, IsReferenceOfKind, NamesKind}
 use Rattle.gc_objects.specs.declared.places.NamedExn.{NamedExn}
 use Rattle.gc_objects.specs.declared.places.NamedField.{NamedField}
 use Rattle.gc_objects.specs.Answered.{Answers, IsFieldOf, HasField}
 use Rattle.gc_objects.specs.Exns.{exn_in, IsNamedExn}
-use Rattle.gc_objects.specs.Reads.{IsTyped}
+use Rattle.gc_objects.specs.Reads.{IsTypedSomewhere}
 use Rattle.gc_objects.proofs.Questions.{answers_named, found_ok}
 use Rattle.gc_objects.proofs.TypedObjects.{stands_named, listed_at, typed_at}
 
@@ -56,7 +56,7 @@ of_exn (array ty values) x kind is e = absurd (cc kind)
 of_exn (host value) x kind is e = absurd (cc kind)
 of_exn (exception ty tag values) x kind is e = none-some (record { ty = ty; tag = tag }) (sym e ∙ ap exn_in is)
 
-not_exn_in : {D : Type 0} (t : Table D) (x : RootedObject) (r : Reference) → IsOfKind kinds.ExnRef t r → IsReference t r x → exn_in x ≡ None → ⊥
+not_exn_in : {D : Type 0} (t : Table D) (x : RootedObject) (r : Reference) → IsReferenceOfKind kinds.ExnRef t r → IsReference t r x → exn_in x ≡ None → ⊥
 not_exn_in t x null kind is e = kind
 not_exn_in t x (small n) kind is e = kind
 not_exn_in t x (at p) kind is e = of_exn kind.0 x kind.1.1 (subst (λ o. IsObject o x) kind.1.0 is) e
@@ -150,15 +150,15 @@ module _ {D : Type 0} (layouts : Layouts) (s : StoreView D) (root : GcRootIndex)
       answers_named s t (is_of_store s root) root (IsNamedExn t) (HasField t index) result which found is
       (λ r named told. param_here t r which index told (exn_typed layouts s t holds root r which named told) found (subst (λ (types : List Declaration). IsFieldOf types which.ty index found) holds.1.types field_of)) answers
 
-  is_typed : (o : Option NamedField) → IsFieldOf s.types which.ty index o → FindsRoot D layouts s root (rooted_object.Exn which.ty which.tag) → IfSome o (λ named. IsTyped D layouts s root named.index named.field)
+  is_typed : (o : Option NamedField) → IsFieldOf s.types which.ty index o → FindsRoot D layouts s root (rooted_object.Exn which.ty which.tag) → IfSome o (λ named. IsTypedSomewhere D layouts s root named.index named.field)
   is_typed None field finds = tt
   is_typed (Some named) field finds =
       let t = finds.table in
       let told = tells_exn t (rooted_object.Exn which.ty which.tag) which refl finds.root finds.is in
       let here = param_here t finds.root which index told (exn_typed layouts s t finds.holds root finds.root which finds.named told) (Some named) (subst (λ (types : List Declaration). IsFieldOf types which.ty index (Some named)) finds.holds.1.types field) in
-      subst (λ (n : ℕ). IsTyped D layouts s root n named.field) (sym here.index_is) (record { table = t; holds = finds.holds; typed = typed_at s t root index finds.root named finds.named here })
+      subst (λ (n : ℕ). IsTypedSomewhere D layouts s root n named.field) (sym here.index_is) (record { table = t; holds = finds.holds; typed = typed_at s t root index finds.root named finds.named here })
 
-  pub finds_param : IfOk result (λ (w : NamedExn). FindsRoot D layouts s root (rooted_object.Exn w.ty w.tag)) → IfSome found (λ named. IsTyped D layouts s root named.index named.field)
+  pub finds_param : IfOk result (λ (w : NamedExn). FindsRoot D layouts s root (rooted_object.Exn w.ty w.tag)) → IfSome found (λ named. IsTypedSomewhere D layouts s root named.index named.field)
   finds_param finds = is_typed found field_of (found_ok (λ (w : NamedExn). FindsRoot D layouts s root (rooted_object.Exn w.ty w.tag)) result which is finds)
 
 -- the type of what is found is declared as one of exceptions

@@ -21,7 +21,7 @@ use Rattle.gc_store.specs.Handles.{PushesRoot}
 use Rattle.gc_store.specs.HostPlaces.{PlacesHost}
 use Rattle.gc_store.specs.Places.{PlacesObject}
 use Rattle.gc_store.specs.Roots.{is_of_store, NamesScoped, NamesReference, NamesNothing}
-use Rattle.gc_store.specs.Kinds.{IsOfKind, NamesKind, IsScopedOfKind}
+use Rattle.gc_store.specs.Kinds.{IsReferenceOfKind, NamesKind, IsScopedOfKind}
 use Rattle.gc_objects.specs.declared.faults.AllocFault.{AllocFault}
 use Rattle.gc_objects.specs.Answered.{Answers}
 use Rattle.gc_objects.specs.Hosts.{IsHostHanded, MakesHost, CopiesRoot, CopiesHandle}
@@ -131,7 +131,7 @@ module _ {D : Type 0} (layouts : Layouts) (old new : StoreView D) (handle : GcRo
     copied_err T this same why is = subst (λ (h : GcRootIndex). CopiesRoot layouts old t a h (Err why) new) same (subst Copies is copied)
 
   -- anything of class any is one of the embedder's references
-  extern_takes : (t : Table D) (r : Reference) → IsOfKind kinds.AnyRef t r → IsOfKind kinds.ExternRef (push r t) r
+  extern_takes : (t : Table D) (r : Reference) → IsReferenceOfKind kinds.AnyRef t r → IsReferenceOfKind kinds.ExternRef (push r t) r
   extern_takes t null is = absurd is
   extern_takes t (small n) is = tt
   extern_takes t (at q) is = (

@@ -26,7 +26,7 @@ use Rattle.gc_store.specs.Places.{Places, PlacesObject, RefusesPlace}
 use Rattle.gc_store.specs.Requests.{CanPlaceStruct, CanPlaceElements}
 use Rattle.gc_store.specs.Roots.{NamesScoped}
 use Rattle.gc_store.specs.Values.{AllStand, RawStands, CanStore}
-use Rattle.gc_store.specs.Kinds.{object_kind, Takes, IsScopedOfKind}
+use Rattle.gc_store.specs.Kinds.{object_kind, TakesKind, IsScopedOfKind}
 use Rattle.gc_objects.specs.declared.faults.AllocFault.TheVariants as fault
 use Rattle.gc_objects.specs.declared.faults.ValueFault.{ValueFault}
 use Rattle.gc_objects.specs.declared.faults.ValueFault.TheVariants as value_fault
@@ -70,7 +70,7 @@ module _ {D : Type 0} (layouts : Layouts) (counter : Option ℕ) (s new : StoreV
       (names_made t (are_before layouts s t (held_table layouts s t a holds)) new o places.allocates.pages))
 
   -- and is of its kind
-  pub asked_kind : (kind : VMGcKind) → Takes kind (object_kind o) → (answer : Result GcRootIndex Fault) → MakesAsked layouts counter o (policy_state t a limits) limits' answer new → IfOk answer (IsScopedOfKind D layouts new kind)
+  pub asked_kind : (kind : VMGcKind) → TakesKind kind (object_kind o) → (answer : Result GcRootIndex Fault) → MakesAsked layouts counter o (policy_state t a limits) limits' answer new → IfOk answer (IsScopedOfKind D layouts new kind)
   asked_kind kind takes (Ok root) places =
       let u : Table D = make o places.after.table in
       record {

@@ -17,7 +17,7 @@ use Rattle.gc_values.specs.declared.root.GcRootIndex.{GcRootIndex}
 use Rattle.gc_values.specs.declared.root.RootSlot.TheVariants as slot
 use Rattle.gc_store.specs.Roots.{handle_of, NamesScoped, NamesOwned, NamesReference}
 use Rattle.gc_values.specs.Words.{owned_id}
-use Rattle.gc_store.specs.Kinds.{IsOfKind, NamesKind, IsScopedOfKind}
+use Rattle.gc_store.specs.Kinds.{IsReferenceOfKind, NamesKind, IsScopedOfKind}
 
 -- a root at the end is found by its serial, where no other has it
 rooted_at_end : (serial : ℕ) (roots : List Scoped) (r : Reference) → ((i : ℕ) (root : Scoped) → slice_get roots i ≡ Some root → root.serial ≢ serial)
@@ -93,8 +93,8 @@ module _ {D : Type 0} (layouts : Layouts) (s : StoreView D) (t : Table D) (holds
   names_once r q (inr first) (inr second) = owned_once r q first second
 
   -- what it names is of a kind, so the handle is given as that kind
-  pub named_kind : (kind : VMGcKind) (r : Reference) → NamesReference s t handle r → IsOfKind kind t r → NamesKind D layouts s kind handle
-  named_kind kind r named is = record { table = t; holds = holds; is = λ q other. subst (IsOfKind kind t) (names_once r q named other) is }
+  pub named_kind : (kind : VMGcKind) (r : Reference) → NamesReference s t handle r → IsReferenceOfKind kind t r → NamesKind D layouts s kind handle
+  named_kind kind r named is = record { table = t; holds = holds; is = λ q other. subst (IsReferenceOfKind kind t) (names_once r q named other) is }
 
 -- a scoped root of a kind names no reference of another
 module _ {D : Type 0} (layouts : Layouts) (s : StoreView D) (kind : VMGcKind) where

@@ -23,16 +23,16 @@ use Rattle.gc_values.specs.declared.root.RawValue.{RawValue}
 use Rattle.gc_values.specs.declared.root.RawValue.TheVariants as raw
 use Rattle.gc_store.specs.Roots.{handle_of, NamesScoped, HasValue, CanRead}
 use Rattle.gc_store.specs.Values.{IsReadAs, ReadsValue}
-use Rattle.gc_store.specs.Kinds.{object_kind, Takes, IsOfKind, IsScopedOfKind}
+use Rattle.gc_store.specs.Kinds.{object_kind, TakesKind, IsReferenceOfKind, IsScopedOfKind}
 use Rattle.gc_objects.specs.declared.val.Val.{Val}
 use Rattle.gc_objects.specs.declared.val.Val.TheVariants as val
-use Rattle.gc_objects.specs.Given.{root_of, raw_of, class_kind, RootIsOfKind, IsGiven, RootNamesKind, ValNamesKind}
+use Rattle.gc_objects.specs.Given.{root_of_handle, raw_of, class_kind, RootIsOfKind, IsGiven, RootNamesKind, ValNamesKind}
 use Rattle.gc_objects.proofs.Pushed.{are_before, names_pushed, scoped_kind}
 use Rattle.gc_objects.proofs.Pushing.{held_table}
 
 -- an object is there, and a handle of that kind names it
 abbrev IsTaken : {D : Type 0} → VMGcKind → Option (Object D) → Type 0
-IsTaken {D} kind o = (object : Object D) × ((o ≡ Some object) × Takes kind (object_kind object))
+IsTaken {D} kind o = (object : Object D) × ((o ≡ Some object) × TakesKind kind (object_kind object))
 
 any_taken : {D : Type 0} (types : List Declaration) (ty : HeapType) (o : Option (Object D)) → object_fits_any types ty o ≡ true → IsTaken kinds.AnyRef o
 any_taken types ty None fit = absurd (cc fit)
@@ -80,7 +80,7 @@ module _ {D : Type 0} (types : List Declaration) (objects : List (Object D)) whe
   no_small_exn (storage.ValType (val_type.Ref ty)) n fit = absurd (cc fit)
 
 -- a reference that fits is of the kind that handles of its class are given as
-small_kind : {D : Type 0} (t : Table D) (ty : StorageType) (class : GcClass) (n : ℕ) → fits t.types t.objects ty (reference class (small n)) ≡ true → IsOfKind (class_kind class) t (small n)
+small_kind : {D : Type 0} (t : Table D) (ty : StorageType) (class : GcClass) (n : ℕ) → fits t.types t.objects ty (reference class (small n)) ≡ true → IsReferenceOfKind (class_kind class) t (small n)
 small_kind t ty Any n fit = tt
 small_kind t ty Extern n fit = tt
 small_kind t ty Exn n fit = absurd (no_small_exn t.types t.objects ty n fit)
@@ -91,7 +91,7 @@ record IsReadRoot {D : Type 0} (new : StoreView D) (t : Table D) (x : Value) (cl
   value_is : x ≡ reference class reference_read
   after_is : after_read x t ≡ push reference_read t
   handle_is : handle ≡ handle_of new (length t.scoped) t.drops
-  kind_is : (ty : StorageType) → fits t.types t.objects ty x ≡ true → IsOfKind (class_kind class) (push reference_read t) reference_read
+  kind_is : (ty : StorageType) → fits t.types t.objects ty x ≡ true → IsReferenceOfKind (class_kind class) (push reference_read t) reference_read
 
 read_root : {D : Type 0} (new : StoreView D) (t : Table D) (x : Value) (class : GcClass) (handle : GcRootIndex) → IsReadAs new t x (raw.Ref class (Some handle)) → IsReadRoot new t x class handle
 read_root new t (numeric i32 n) class handle is = absurd (cc is.1.0)
@@ -109,7 +109,7 @@ read_root new t (reference own (small n)) class handle is =
       value_is = ap (λ (c : GcClass). reference c (small n)) class_is;
       after_is = refl;
       handle_is = grind (arith, is);
-      kind_is = λ ty fit. subst (λ (c : GcClass). IsOfKind (class_kind c) t (small n)) class_is (small_kind t ty own n fit);
+      kind_is = λ ty fit. subst (λ (c : GcClass). IsReferenceOfKind (class_kind c) t (small n)) class_is (small_kind t ty own n fit);
     }
 read_root new t (reference own (at p)) class handle is =
     let class_is : own ≡ class = grind (arith, is) in
@@ -118,7 +118,7 @@ read_root new t (reference own (at p)) class handle is =
       value_is = ap (λ (c : GcClass). reference c (at p)) class_is;
       after_is = refl;
       handle_is = grind (arith, is);
-      kind_is = λ ty fit. subst (λ (c : GcClass). IsOfKind (class_kind c) t (at p)) class_is (placed_taken t.types t.objects ty own p fit);
+      kind_is = λ ty fit. subst (λ (c : GcClass). IsReferenceOfKind (class_kind c) t (at p)) class_is (placed_taken t.types t.objects ty own p fit);
     }
 
 module _ {D : Type 0} (layouts : Layouts) (old new : StoreView D) (index : ℕ) (root : GcRootIndex) (can : CanRead D layouts old root index) (given : RawValue)
@@ -170,6 +170,6 @@ module _ {D : Type 0} (layouts : Layouts) (old new : StoreView D) (index : ℕ) 
   value_kind (val.V128 n) is = tt
   value_kind (val.FuncRef f) is = tt
   value_kind (val.ContRef c) is = tt
-  value_kind (val.ExternRef handle) is = names_kind kinds.ExternRef (root_of handle) (any_root Extern (root_of handle) (sym is))
-  value_kind (val.AnyRef handle) is = names_kind kinds.AnyRef (root_of handle) (any_root Any (root_of handle) (sym is))
-  value_kind (val.ExnRef handle) is = names_kind kinds.ExnRef (root_of handle) (any_root Exn (root_of handle) (sym is))
+  value_kind (val.ExternRef handle) is = names_kind kinds.ExternRef (root_of_handle handle) (any_root Extern (root_of_handle handle) (sym is))
+  value_kind (val.AnyRef handle) is = names_kind kinds.AnyRef (root_of_handle handle) (any_root Any (root_of_handle handle) (sym is))
+  value_kind (val.ExnRef handle) is = names_kind kinds.ExnRef (root_of_handle handle) (any_root Exn (root_of_handle handle) (sym is))

@@ -21,7 +21,7 @@ use Rattle.gc_objects.specs.declared.val.Val.{Val}
 use Rattle.gc_objects.specs.Answered.{Answers}
 use Rattle.gc_objects.specs.Faults.{accessed, accessed_value}
 use Rattle.gc_objects.specs.Given.{is_own, raw_of, Goes, ChecksValue, CanStoreAs}
-use Rattle.gc_objects.specs.Reads.{IsTypedAt, IsTyped}
+use Rattle.gc_objects.specs.Reads.{IsTypedAt, IsTypedSomewhere}
 use Rattle.gc_objects.specs.Writes.{HasType, GoesThere, Sets, WritesAs, are_own_both}
 use Rattle.gc_objects.proofs.Naming.{both, found_true}
 
@@ -52,7 +52,7 @@ has_type s t handle index field typed = record {
 }
 
 -- a value that may be stored may be written where it is meant to go
-pub may_write : (D : Type 0) (layouts : Layouts) (s : StoreView D) (root : GcRootIndex) (index : ℕ) (field : FieldType) (v : Val) → IsTyped D layouts s root index field → CanStoreAs D layouts s (Some field) v → CanWrite D layouts s root index (raw_of v)
+pub may_write : (D : Type 0) (layouts : Layouts) (s : StoreView D) (root : GcRootIndex) (index : ℕ) (field : FieldType) (v : Val) → IsTypedSomewhere D layouts s root index field → CanStoreAs D layouts s (Some field) v → CanWrite D layouts s root index (raw_of v)
 may_write D layouts s root index field v typed can = record {
   table = typed.table;
   holds = typed.holds;

@@ -14,7 +14,7 @@ use Rattle.gc_objects.specs.declared.places.NamedField.{NamedField}
 use Rattle.gc_objects.specs.declared.val.Val.{Val}
 use Rattle.gc_objects.specs.Answered.{Answers, HasField}
 use Rattle.gc_objects.specs.Faults.{accessed}
-use Rattle.gc_objects.specs.Reads.{IsOutside, IsTypedAt, IsTyped, ReadsAs, ReadsAt}
+use Rattle.gc_objects.specs.Reads.{IsOutside, IsTypedAt, IsTypedSomewhere, ReadsAs, ReadsAt}
 use Rattle.gc_objects.proofs.TypedObjects.{typed_at, outside_at}
 
 -- a refusal of a root is one of a read
@@ -91,5 +91,5 @@ module _ {D : Type 0} (layouts : Layouts) (s : StoreView D) (root this : GcRootI
 
 -- what is found of a field, once it is there
 pub typed_found : (D : Type 0) (layouts : Layouts) (s : StoreView D) (root : GcRootIndex) (found : Option NamedField) (named : NamedField) → found ≡ Some named
-    → IfSome found (λ n. IsTyped D layouts s root n.index n.field) → IsTyped D layouts s root named.index named.field
-typed_found D layouts s root found named is typed = subst (λ (o : Option NamedField). IfSome o (λ n. IsTyped D layouts s root n.index n.field)) is typed
+    → IfSome found (λ n. IsTypedSomewhere D layouts s root n.index n.field) → IsTypedSomewhere D layouts s root named.index named.field
+typed_found D layouts s root found named is typed = subst (λ (o : Option NamedField). IfSome o (λ n. IsTypedSomewhere D layouts s root n.index n.field)) is typed

@@ -11,7 +11,7 @@ use Rattle.gc_model.specs.Table.{Table}
 use Rattle.gc_model.specs.Stores.{StoreView}
 use Rattle.gc_model.specs.Holds.{HoldsTable}
 use Rattle.gc_values.specs.declared.request.Place.TheVariants as request
-use Rattle.gc_store.specs.Requests.{CanPlaceStruct, fields_of}
+use Rattle.gc_store.specs.Requests.{CanPlaceStruct, struct_fields_of}
 use Rattle.gc_objects.specs.declared.checks.ValueTypes.TheVariants as value_types
 use Rattle.gc_objects.specs.declared.faults.ValueFault.{ValueFault}
 use Rattle.gc_objects.specs.declared.faults.ValueFault.TheVariants as value_fault
@@ -35,10 +35,10 @@ module _ {D : Type 0} (layouts : Layouts) (s : StoreView D) (index : ℕ) (ty : 
   struct_may_be storable = can_make_struct D layouts s index vs listed count storable
 
   module _ (t : Table D) (holds : HoldsTable layouts s t) where
-    fields_are : fields_of t.types ty.index ≡ listed.fields
+    fields_are : struct_fields_of t.types ty.index ≡ listed.fields
     fields_are =
-        sym (ap (λ (types : List Declaration). fields_of types ty.index) holds.1.types)
-        ∙ sym (ap (fields_of s.types) index_is)
+        sym (ap (λ (types : List Declaration). struct_fields_of types ty.index) holds.1.types)
+        ∙ sym (ap (struct_fields_of s.types) index_is)
         ∙ ap (λ (o : Option (List FieldType)). unwrap_or o []) listed.struct_listed
 
     all_fields : HasAllFields t ty vs
@@ -59,7 +59,7 @@ module _ {D : Type 0} (layouts : Layouts) (s : StoreView D) (index : ℕ) (ty : 
     struct_cause value_fault.TypeMismatch checks = record { own = own; count = all_fields; found = here (Err value_fault.TypeMismatch) checks }
 
     -- all tests passed
-    pub struct_asked : (checks : ChecksValues s t (types_of s.types (value_types.Fields index)) vs (Ok tt)) → AsksStruct s t ty vs (struct ty.index (stored_in (fields_of t.types ty.index) checks.0))
+    pub struct_asked : (checks : ChecksValues s t (types_of s.types (value_types.Fields index)) vs (Ok tt)) → AsksStruct s t ty vs (struct ty.index (stored_in (struct_fields_of t.types ty.index) checks.0))
     struct_asked checks = record {
       own = own;
       counted = all_fields;
@@ -68,8 +68,8 @@ module _ {D : Type 0} (layouts : Layouts) (s : StoreView D) (index : ℕ) (ty : 
       object_is = refl;
     }
 
-    pub struct_made_of : (checks : ChecksValues s t (types_of s.types (value_types.Fields index)) vs (Ok tt)) → IsMadeOf s t (request.Struct index) vs (struct ty.index (stored_in (fields_of t.types ty.index) checks.0))
+    pub struct_made_of : (checks : ChecksValues s t (types_of s.types (value_types.Fields index)) vs (Ok tt)) → IsMadeOf s t (request.Struct index) vs (struct ty.index (stored_in (struct_fields_of t.types ty.index) checks.0))
     struct_made_of checks = (
       checks.0,
-      (all_stand s t (types_of s.types (value_types.Fields index)) vs checks.0 checks.1, ap (λ (n : ℕ). struct n (stored_in (fields_of t.types n) checks.0)) (sym index_is)),
+      (all_stand s t (types_of s.types (value_types.Fields index)) vs checks.0 checks.1, ap (λ (n : ℕ). struct n (stored_in (struct_fields_of t.types n) checks.0)) (sym index_is)),
     )

@@ -11,7 +11,7 @@ use Rattle.gc_values.specs.declared.root.GcRootIndex.{GcRootIndex}
 use Rattle.gc_values.specs.declared.root.RootFault.{RootFault}
 use Rattle.gc_store.specs.Roots.{NamesScoped}
 use Rattle.gc_store.specs.Thrown.{AnswersPending, TakesPending}
-use Rattle.gc_store.specs.Kinds.{IsOfKind, IsScopedOfKind}
+use Rattle.gc_store.specs.Kinds.{IsReferenceOfKind, IsScopedOfKind}
 use Rattle.gc_objects.proofs.Pushed.{are_before, names_pushed}
 use Rattle.gc_objects.proofs.Pushing.{held_table}
 
@@ -36,7 +36,7 @@ taken_kind {D} layouts old new t a holds handle is =
       named =
           names_taken (push is.root t) new handle is.root
           (subst (λ (h : GcRootIndex). NamesScoped new (push is.root t) h is.root) (sym is.handle_is) (names_pushed t (are_before layouts old t (held_table layouts old t a holds)) new is.root));
-      of_kind = subst (IsOfKind kinds.ExnRef after) (sym thrown.reference_is) (_, (thrown.object_is, (λ i. kinds.ExnRef)));
+      of_kind = subst (IsReferenceOfKind kinds.ExnRef after) (sym thrown.reference_is) (_, (thrown.object_is, (λ i. kinds.ExnRef)));
     }
 
 -- the answer of the store's call where one was pending

@@ -29,7 +29,7 @@ use Rattle.gc_objects.specs.declared.places.NamedExn.{NamedExn}
 use Rattle.gc_objects.specs.Answered.{Answers, IsStruct, IsNamedArray}
 use Rattle.gc_objects.specs.Exns.{IsNamedExn}
 use Rattle.gc_objects.specs.Given.{field_types}
-use Rattle.gc_objects.specs.ValueRuns.{one_if, is_reference_field, reference_count, reference_fields, HasCounts}
+use Rattle.gc_objects.specs.ValueRuns.{one_if, is_reference_field, reference_value_count, reference_fields, HasCounts}
 use Rattle.gc_objects.proofs.ExnLemmas.{tells_exn, exn_typed}
 use Rattle.gc_types.proofs.FewFields.{few_fields}
 use Rattle.gc_objects.proofs.Questions.{tells_struct}
@@ -40,7 +40,7 @@ use Rattle.gc_objects.proofs.ValueGiving.{first_left}
 abbrev pub is_ref : Value → Bool
 is_ref x = is_reference (value_form x)
 
-pub count_head : (x : Value) (xs : List Value) → reference_count (x ∷ xs) ≡ one_if (is_ref x) + reference_count xs
+pub count_head : (x : Value) (xs : List Value) → reference_value_count (x ∷ xs) ≡ one_if (is_ref x) + reference_value_count xs
 count_head (numeric kind n) xs = omega (arith)
 count_head (function f) xs = omega (arith)
 count_head (continuation c) xs = omega (arith)
@@ -49,7 +49,7 @@ count_head (reference class r) xs = omega (arith)
 -- a value for each field, which is a reference exactly where the field keeps references
 fields_alike : (fields : List FieldType) (xs : List Value) → length xs ≡ length fields
     → ((i : ℕ) (x : Value) (field : FieldType) → slice_get xs i ≡ Some x → slice_get fields i ≡ Some field → is_gc_storage field.element_type ≡ is_ref x)
-    → reference_fields fields ≡ reference_count xs
+    → reference_fields fields ≡ reference_value_count xs
 fields_alike [] [] e each = refl
 fields_alike [] (x ∷ xs) e each = absurd (omega (arith, e))
 fields_alike (field ∷ fields) [] e each = absurd (omega (arith, e))
@@ -57,16 +57,16 @@ fields_alike (field ∷ fields) (x ∷ xs) e each =
     (λ i. one_if (each 0 x field refl refl i) + fields_alike fields xs (omega (arith, e)) (λ j. each (suc j)) i) ∙ sym (count_head x xs)
 
 -- elements that are all references, or none
-elements_alike : (b : Bool) (xs : List Value) → ((i : ℕ) (x : Value) → slice_get xs i ≡ Some x → b ≡ is_ref x) → (if b then length xs else 0) ≡ reference_count xs
+elements_alike : (b : Bool) (xs : List Value) → ((i : ℕ) (x : Value) → slice_get xs i ≡ Some x → b ≡ is_ref x) → (if b then length xs else 0) ≡ reference_value_count xs
 elements_alike true [] each = refl
 elements_alike false [] each = refl
 elements_alike true (x ∷ xs) each =
-    let rest : length xs ≡ reference_count xs = elements_alike true xs (λ i. each (suc i)) in
+    let rest : length xs ≡ reference_value_count xs = elements_alike true xs (λ i. each (suc i)) in
     let first : one_if true ≡ one_if (is_ref x) = ap one_if (each 0 x refl) in
     let one : one_if true ≡ 1 = refl in
     omega (arith, rest, first, one, count_head x xs)
 elements_alike false (x ∷ xs) each =
-    let rest : 0 ≡ reference_count xs = elements_alike false xs (λ i. each (suc i)) in
+    let rest : 0 ≡ reference_value_count xs = elements_alike false xs (λ i. each (suc i)) in
     let first : one_if false ≡ one_if (is_ref x) = ap one_if (each 0 x refl) in
     let none : one_if false ≡ 0 = refl in
     omega (arith, rest, first, none, count_head x xs)

@@ -20,7 +20,7 @@ use Rattle.gc_store.specs.Roots.{HasValue, CanRead}
 use Rattle.gc_store.specs.Stores.{IsSameStore, scoped_places}
 use Rattle.gc_objects.specs.declared.val.Val.{Val}
 use Rattle.gc_objects.specs.Reads.{ReadsAs}
-use Rattle.gc_objects.specs.ValueRuns.{reference_count, run_of, HasLeft, GivesFirst, CanGive}
+use Rattle.gc_objects.specs.ValueRuns.{reference_value_count, run_of, HasLeft, GivesFirst, CanGive}
 use Rattle.gc_objects.proofs.LaterNames.{named_read}
 use Rattle.gc_objects.proofs.Pushing.{held_table}
 
@@ -63,10 +63,10 @@ full_lacks t full some =
 
 module _ (x : Value) (rest : List Value) where
   -- a value that makes a root is a reference
-  root_counts : makes_root x ≡ true → 0 < reference_count (x ∷ rest)
+  root_counts : makes_root x ≡ true → 0 < reference_value_count (x ∷ rest)
   root_counts is = by x is
     where
-      by : (v : Value) → makes_root v ≡ true → 0 < reference_count (v ∷ rest)
+      by : (v : Value) → makes_root v ≡ true → 0 < reference_value_count (v ∷ rest)
       by (numeric kind n) e = absurd (cc e)
       by (function f) e = absurd (cc e)
       by (continuation c) e = absurd (cc e)
@@ -75,13 +75,13 @@ module _ (x : Value) (rest : List Value) where
       by (reference class (at p)) e = omega (arith)
 
 -- the roots that the others want may still be made
-roots_read : {D : Type 0} (x : Value) (rest : List Value) (t : Table D) → reference_count (x ∷ rest) ≤ roots_left t → reference_count rest ≤ roots_left (after_read x t)
+roots_read : {D : Type 0} (x : Value) (rest : List Value) (t : Table D) → reference_value_count (x ∷ rest) ≤ roots_left t → reference_value_count rest ≤ roots_left (after_read x t)
 roots_read (numeric kind n) rest t may = may
 roots_read (function f) rest t may = may
 roots_read (continuation c) rest t may = may
 roots_read (reference class null) rest t may = omega (arith, may)
-roots_read (reference class (small n)) rest t may = left_pushed (small n) t (reference_count rest) (omega (arith, may))
-roots_read (reference class (at p)) rest t may = left_pushed (at p) t (reference_count rest) (omega (arith, may))
+roots_read (reference class (small n)) rest t may = left_pushed (small n) t (reference_value_count rest) (omega (arith, may))
+roots_read (reference class (at p)) rest t may = left_pushed (at p) t (reference_value_count rest) (omega (arith, may))
 
 module _ {D : Type 0} (layouts : Layouts) (s new : StoreView D) (t : Table D) (holds : HoldsTable layouts s t) (places : scoped_places s ≤ scoped_places new) where
   -- and there is room for them
@@ -92,13 +92,13 @@ module _ {D : Type 0} (layouts : Layouts) (s new : StoreView D) (t : Table D) (h
   room_pushed r n later room =
       omega (arith, room, places, holds.1.scoped.same_count, later.1.scoped.same_count, length-append t.scoped ((record { serial = length t.pushes; reference = r }) ∷ []))
 
-  room_read : (x : Value) (rest : List Value) → HoldsTable layouts new (after_read x t) → reference_count (x ∷ rest) ≤ s.spare → reference_count rest ≤ new.spare
-  room_read (numeric kind n) rest later room = room_same (reference_count rest) later room
-  room_read (function f) rest later room = room_same (reference_count rest) later room
-  room_read (continuation c) rest later room = room_same (reference_count rest) later room
-  room_read (reference class null) rest later room = room_same (reference_count rest) later (omega (arith, room))
-  room_read (reference class (small n)) rest later room = room_pushed (small n) (reference_count rest) later (omega (arith, room))
-  room_read (reference class (at p)) rest later room = room_pushed (at p) (reference_count rest) later (omega (arith, room))
+  room_read : (x : Value) (rest : List Value) → HoldsTable layouts new (after_read x t) → reference_value_count (x ∷ rest) ≤ s.spare → reference_value_count rest ≤ new.spare
+  room_read (numeric kind n) rest later room = room_same (reference_value_count rest) later room
+  room_read (function f) rest later room = room_same (reference_value_count rest) later room
+  room_read (continuation c) rest later room = room_same (reference_value_count rest) later room
+  room_read (reference class null) rest later room = room_same (reference_value_count rest) later (omega (arith, room))
+  room_read (reference class (small n)) rest later room = room_pushed (small n) (reference_value_count rest) later (omega (arith, room))
+  room_read (reference class (at p)) rest later room = room_pushed (at p) (reference_value_count rest) later (omega (arith, room))
 
 module _ {D : Type 0} (layouts : Layouts) (s : StoreView D) (root : GcRootIndex) (next len : ℕ) where
   -- as many values are left as there are indices
@@ -151,7 +151,7 @@ module _ {D : Type 0} (layouts : Layouts) (s : StoreView D) (root : GcRootIndex)
       gives_first t a (x ∷ rest) has = ((reads t a x has.holds (value_there t a x rest has)).1.0, left_behind t a x rest has)
 
       module _ (places : scoped_places s ≤ scoped_places new) where
-        ready_of : (t : Table D) (a : Account) (left : List Value) → HasLeft layouts (run_of s root next len) t a left → reference_count left ≤ roots_left t → reference_count left ≤ s.spare
+        ready_of : (t : Table D) (a : Account) (left : List Value) → HasLeft layouts (run_of s root next len) t a left → reference_value_count left ≤ roots_left t → reference_value_count left ≤ s.spare
             → CanGive D layouts (run_of new root (next + 1) len)
         ready_of t a [] has may room = absurd (omega (arith, within, count_left t a [] has))
         ready_of t a (x ∷ rest) has may room =
@@ -171,13 +171,13 @@ module _ {D : Type 0} (layouts : Layouts) (s : StoreView D) (root : GcRootIndex)
 
     module _ (new : StoreView D) (why : RootFault) (reads : (t : Table D) (a : Account) (x : Value) → HoldsAccount layouts s t a → HasValue s t root next x → ReadsAs layouts t a x (Err why) new)
         (reserved : 0 < s.spare → why ≡ root_fault.Memory → ⊥) where
-      refused_so : (f : RootFault) → why ≡ f → (t : Table D) (a : Account) (x : Value) (rest : List Value) → reference_count (x ∷ rest) ≤ roots_left t → reference_count (x ∷ rest) ≤ s.spare → ReadsAs layouts t a x (Err f) new → ⊥
+      refused_so : (f : RootFault) → why ≡ f → (t : Table D) (a : Account) (x : Value) (rest : List Value) → reference_value_count (x ∷ rest) ≤ roots_left t → reference_value_count (x ∷ rest) ≤ s.spare → ReadsAs layouts t a x (Err f) new → ⊥
       refused_so root_fault.WrongStore is t a x rest may room told = told
       refused_so root_fault.Unrooted is t a x rest may room told = told
       refused_so root_fault.RootsFull is t a x rest may room told = full_lacks t told.1.0 (omega (arith, may, root_counts x rest told.0))
       refused_so root_fault.Memory is t a x rest may room told = reserved (omega (arith, room, root_counts x rest told.0)) is
 
-      refused_of : (t : Table D) (a : Account) (left : List Value) → HasLeft layouts (run_of s root next len) t a left → reference_count left ≤ roots_left t → reference_count left ≤ s.spare → ⊥
+      refused_of : (t : Table D) (a : Account) (left : List Value) → HasLeft layouts (run_of s root next len) t a left → reference_value_count left ≤ roots_left t → reference_value_count left ≤ s.spare → ⊥
       refused_of t a [] has may room = absurd (omega (arith, within, count_left t a [] has))
       refused_of t a (x ∷ rest) has may room = refused_so why refl t a x rest may room (reads t a x has.holds (value_there t a x rest has))
 

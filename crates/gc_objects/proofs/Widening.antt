@@ -6,25 +6,25 @@ use Rattle.gc_model.specs.Values.{Reference, null, small, at}
 use Rattle.gc_model.specs.Table.{Table}
 use Rattle.gc_model.specs.Stores.{StoreView}
 use Rattle.gc_values.specs.declared.root.GcRootIndex.{GcRootIndex}
-use Rattle.gc_store.specs.Kinds.{IsOfKind, NamesKind}
+use Rattle.gc_store.specs.Kinds.{IsReferenceOfKind, NamesKind}
 
 module _ {D : Type 0} (t : Table D) where
-  struct_any : (r : Reference) → IsOfKind kinds.StructRef t r → IsOfKind kinds.AnyRef t r
+  struct_any : (r : Reference) → IsReferenceOfKind kinds.StructRef t r → IsReferenceOfKind kinds.AnyRef t r
   struct_any null is = absurd is
   struct_any (small n) is = absurd is
   struct_any (at p) is = (is.0, (is.1.0, inl is.1.1))
 
-  array_any : (r : Reference) → IsOfKind kinds.ArrayRef t r → IsOfKind kinds.AnyRef t r
+  array_any : (r : Reference) → IsReferenceOfKind kinds.ArrayRef t r → IsReferenceOfKind kinds.AnyRef t r
   array_any null is = absurd is
   array_any (small n) is = absurd is
   array_any (at p) is = (is.0, (is.1.0, inr is.1.1))
 
-  struct_eq : (r : Reference) → IsOfKind kinds.StructRef t r → IsOfKind kinds.EqRef t r
+  struct_eq : (r : Reference) → IsReferenceOfKind kinds.StructRef t r → IsReferenceOfKind kinds.EqRef t r
   struct_eq null is = absurd is
   struct_eq (small n) is = absurd is
   struct_eq (at p) is = (is.0, (is.1.0, inl is.1.1))
 
-  array_eq : (r : Reference) → IsOfKind kinds.ArrayRef t r → IsOfKind kinds.EqRef t r
+  array_eq : (r : Reference) → IsReferenceOfKind kinds.ArrayRef t r → IsReferenceOfKind kinds.EqRef t r
   array_eq null is = absurd is
   array_eq (small n) is = absurd is
   array_eq (at p) is = (is.0, (is.1.0, inr is.1.1))

@@ -15,7 +15,7 @@ use Rattle.gc_values.specs.declared.root.RootFault.TheVariants as fault
 use Rattle.gc_store.specs.OwnedWords.{HoldsThere}
 use Rattle.gc_store.specs.RawWords.{IsWordOfKind, IsRawWord, PushesWord}
 use Rattle.gc_store.specs.Roots.{is_of_store, NamesScoped, NamesReference, NamesNothing, TellsWord}
-use Rattle.gc_store.specs.Kinds.{IsOfKind, NamesKind, IsScopedOfKind}
+use Rattle.gc_store.specs.Kinds.{IsReferenceOfKind, NamesKind, IsScopedOfKind}
 use Rattle.gc_objects.proofs.Naming.{bool_cases, named_or_not}
 use Rattle.gc_objects.proofs.Pushed.{are_before, names_pushed}
 
@@ -52,7 +52,7 @@ told_here D layouts s new rest kind root this same names result wrong live gone 
     subst (λ (v : StoreView D). IfOk result (IsRawWord D layouts v kind)) (sym rest)
     (told_kind D layouts s kind root (subst (NamesKind D layouts s kind) (sym same) names) result wrong live gone)
 
-kind_pushed : {D : Type 0} (kind : VMGcKind) (t : Table D) (q r : Reference) → IsOfKind kind t r → IsOfKind kind (push q t) r
+kind_pushed : {D : Type 0} (kind : VMGcKind) (t : Table D) (q r : Reference) → IsReferenceOfKind kind t r → IsReferenceOfKind kind (push q t) r
 kind_pushed kind t q null is = is
 kind_pushed kind t q (small n) is = is
 kind_pushed kind t q (at p) is = is

@@ -98,12 +98,12 @@ abbrev pub MatchesType : {D : Type 0} → Table D → (Reference → ℕ → Typ
 MatchesType t IsOf other r answer = (ty : ℕ) × (IsOf r ty × (IsTrue answer ↔ Meets (supertypes_of t.types) ty other))
 
 -- what the store says of a reference that is a 31-bit number, a struct or an array
-abbrev pub number_in : RootedObject → Option ℕ
-number_in (rooted.I31 n) = Some n
-number_in (rooted.Struct ty) = None
-number_in (rooted.Array ty count) = None
-number_in rooted.Host = None
-number_in (rooted.Exn ty tag) = None
+abbrev pub i31_in : RootedObject → Option ℕ
+i31_in (rooted.I31 n) = Some n
+i31_in (rooted.Struct ty) = None
+i31_in (rooted.Array ty count) = None
+i31_in rooted.Host = None
+i31_in (rooted.Exn ty tag) = None
 
 abbrev pub struct_in : RootedObject → Option ℕ
 struct_in (rooted.I31 n) = None
@@ -112,12 +112,12 @@ struct_in (rooted.Array ty count) = None
 struct_in rooted.Host = None
 struct_in (rooted.Exn ty tag) = None
 
-abbrev pub array_in : RootedObject → Option NamedArray
-array_in (rooted.I31 n) = None
-array_in (rooted.Struct ty) = None
-array_in (rooted.Array ty count) = Some (record { ty = ty; len = count })
-array_in rooted.Host = None
-array_in (rooted.Exn ty tag) = None
+abbrev pub named_array_in : RootedObject → Option NamedArray
+named_array_in (rooted.I31 n) = None
+named_array_in (rooted.Struct ty) = None
+named_array_in (rooted.Array ty count) = Some (record { ty = ty; len = count })
+named_array_in rooted.Host = None
+named_array_in (rooted.Exn ty tag) = None
 
 -- the 31-bit number that a reference is, where it is one
 abbrev pub IsNumber : Reference → Option ℕ → Type 0
@@ -125,19 +125,19 @@ IsNumber null answer = ⊥
 IsNumber (small n) answer = answer ≡ Some n
 IsNumber (at p) answer = answer ≡ None
 
-abbrev pub is_struct : {D : Type 0} → Option (Object D) → Bool
-is_struct None = false
-is_struct (Some (struct ty values)) = true
-is_struct (Some (array ty values)) = false
-is_struct (Some (host value)) = false
-is_struct (Some (exception ty tag values)) = false
+abbrev pub is_some_struct : {D : Type 0} → Option (Object D) → Bool
+is_some_struct None = false
+is_some_struct (Some (struct ty values)) = true
+is_some_struct (Some (array ty values)) = false
+is_some_struct (Some (host value)) = false
+is_some_struct (Some (exception ty tag values)) = false
 
-abbrev pub is_array : {D : Type 0} → Option (Object D) → Bool
-is_array None = false
-is_array (Some (struct ty values)) = false
-is_array (Some (array ty values)) = true
-is_array (Some (host value)) = false
-is_array (Some (exception ty tag values)) = false
+abbrev pub is_some_array : {D : Type 0} → Option (Object D) → Bool
+is_some_array None = false
+is_some_array (Some (struct ty values)) = false
+is_some_array (Some (array ty values)) = true
+is_some_array (Some (host value)) = false
+is_some_array (Some (exception ty tag values)) = false
 
 -- the same root under another type, exactly where a test holds of it
 abbrev pub IsSameRoot : {T : Type 0} → GcRootIndex → Bool → Option (Rooted T) → Type 0
@@ -145,10 +145,10 @@ IsSameRoot root holds None = holds ≡ false
 IsSameRoot root holds (Some handle) = (holds ≡ true) × (handle.index ≡ root)
 
 abbrev pub IsStructRoot : {D T : Type 0} → Table D → GcRootIndex → Reference → Option (Rooted T) → Type 0
-IsStructRoot t root r answer = IsSameRoot root (is_struct (named_object t r)) answer
+IsStructRoot t root r answer = IsSameRoot root (is_some_struct (named_object t r)) answer
 
 abbrev pub IsArrayRoot : {D T : Type 0} → Table D → GcRootIndex → Reference → Option (Rooted T) → Type 0
-IsArrayRoot t root r answer = IsSameRoot root (is_array (named_object t r)) answer
+IsArrayRoot t root r answer = IsSameRoot root (is_some_array (named_object t r)) answer
 
 -- a handle and a type are the store's
 abbrev pub are_own_names : {D : Type 0} → StoreView D → GcRootIndex → TypeName → Bool
@@ -173,8 +173,8 @@ RawFitsType s t ty r (Ok answer) = (is_own_root s (raw_handle r) ≡ true) × ((
 RawFitsType s t ty r (Err why) = ChecksHandle s t r (Err why)
 
 -- whether a value fits a type
-abbrev pub FitsType : {D : Type 0} → StoreView D → Table D → ValType → Val → Result Bool RootFault → Type 0
-FitsType s t ty v result = RawFitsType s t ty (raw_of v) result
+abbrev pub ValFitsType : {D : Type 0} → StoreView D → Table D → ValType → Val → Result Bool RootFault → Type 0
+ValFitsType s t ty v result = RawFitsType s t ty (raw_of v) result
 
 -- the handle names an array whose elements are not of 8 bits
 pub record NamesOther {D : Type 0} (s : StoreView D) (t : Table D) (handle : GcRootIndex) : Type 0 where

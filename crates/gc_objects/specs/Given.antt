@@ -29,9 +29,9 @@ use Rattle.gc_objects.specs.declared.val.Val.{Val}
 use Rattle.gc_objects.specs.declared.val.Val.TheVariants as val
 
 -- the root of a handle, where there is one
-abbrev pub root_of : {T : Type 0} → Option (Rooted T) → Option GcRootIndex
-root_of None = None
-root_of (Some handle) = Some handle.index
+abbrev pub root_of_handle : {T : Type 0} → Option (Rooted T) → Option GcRootIndex
+root_of_handle None = None
+root_of_handle (Some handle) = Some handle.index
 
 -- a value as the store takes it
 abbrev pub raw_of : Val → RawValue
@@ -42,9 +42,9 @@ raw_of (val.F64 n) = raw.F64 n
 raw_of (val.V128 n) = raw.V128 n
 raw_of (val.FuncRef f) = raw.Func f
 raw_of (val.ContRef c) = raw.Cont c
-raw_of (val.ExternRef handle) = raw.Ref Extern (root_of handle)
-raw_of (val.AnyRef handle) = raw.Ref Any (root_of handle)
-raw_of (val.ExnRef handle) = raw.Ref Exn (root_of handle)
+raw_of (val.ExternRef handle) = raw.Ref Extern (root_of_handle handle)
+raw_of (val.AnyRef handle) = raw.Ref Any (root_of_handle handle)
+raw_of (val.ExnRef handle) = raw.Ref Exn (root_of_handle handle)
 
 -- the root that a value names, where it does
 abbrev pub named_root : Val → Option GcRootIndex
@@ -73,8 +73,8 @@ ValStands s t v x = RawStands s t (raw_of v) x
 abbrev pub RawIsGone : {D : Type 0} → StoreView D → Table D → RawValue → Type 0
 RawIsGone s t r = (handle : GcRootIndex) × ((raw_handle r ≡ Some handle) × NamesNothing s t handle)
 
-abbrev pub IsGone : {D : Type 0} → StoreView D → Table D → Val → Type 0
-IsGone s t v = RawIsGone s t (raw_of v)
+abbrev pub ValIsGone : {D : Type 0} → StoreView D → Table D → Val → Type 0
+ValIsGone s t v = RawIsGone s t (raw_of v)
 
 -- the root stands in some table that the store holds, where there is one
 abbrev pub RootIsLive : (D : Type 0) → Layouts → StoreView D → Option GcRootIndex → Type 0
@@ -100,12 +100,12 @@ pub record Misfits {D : Type 0} (s : StoreView D) (t : Table D) (field : Option 
 -- a value that is found live stands for one of the table; else its root is gone
 abbrev pub IsLiveOrGone : {D : Type 0} → StoreView D → Table D → Val → Bool → Type 0
 IsLiveOrGone s t v true = (x : Value) × ValStands s t v x
-IsLiveOrGone s t v false = IsGone s t v
+IsLiveOrGone s t v false = ValIsGone s t v
 
 -- what the tests of a value find, in their order
 abbrev pub ChecksValue : {D : Type 0} → StoreView D → Table D → Option FieldType → Val → Result (Unit {0}) ValueFault → Type 0
 ChecksValue s t field v (Ok done) = (x : Value) × Goes s t field v x
-ChecksValue s t field v (Err value_fault.Unrooted) = IsGone s t v
+ChecksValue s t field v (Err value_fault.Unrooted) = ValIsGone s t v
 ChecksValue s t field v (Err value_fault.TypeMismatch) = Misfits s t field v
 
 -- the same of a value for so many elements
@@ -136,7 +136,7 @@ pub record IsFirst {D : Type 0} (s : StoreView D) (t : Table D) (types : ℕ →
 
 -- the first value that doesn't go has a root that is gone, or fits not
 abbrev pub FirstGone : {D : Type 0} → StoreView D → Table D → (ℕ → Option FieldType) → List Val → Type 0
-FirstGone s t types vs = (index : ℕ) × ((v : Val) × (IsFirst s t types vs index v × IsGone s t v))
+FirstGone s t types vs = (index : ℕ) × ((v : Val) × (IsFirst s t types vs index v × ValIsGone s t v))
 
 abbrev pub FirstMisfit : {D : Type 0} → StoreView D → Table D → (ℕ → Option FieldType) → List Val → Type 0
 FirstMisfit s t types vs = (index : ℕ) × ((v : Val) × (IsFirst s t types vs index v × Misfits s t (types index) v))
@@ -191,6 +191,6 @@ ValNamesKind D layouts s (val.F64 n) = Unit {0}
 ValNamesKind D layouts s (val.V128 n) = Unit {0}
 ValNamesKind D layouts s (val.FuncRef f) = Unit {0}
 ValNamesKind D layouts s (val.ContRef c) = Unit {0}
-ValNamesKind D layouts s (val.ExternRef handle) = RootNamesKind D layouts s kinds.ExternRef (root_of handle)
-ValNamesKind D layouts s (val.AnyRef handle) = RootNamesKind D layouts s kinds.AnyRef (root_of handle)
-ValNamesKind D layouts s (val.ExnRef handle) = RootNamesKind D layouts s kinds.ExnRef (root_of handle)
+ValNamesKind D layouts s (val.ExternRef handle) = RootNamesKind D layouts s kinds.ExternRef (root_of_handle handle)
+ValNamesKind D layouts s (val.AnyRef handle) = RootNamesKind D layouts s kinds.AnyRef (root_of_handle handle)
+ValNamesKind D layouts s (val.ExnRef handle) = RootNamesKind D layouts s kinds.ExnRef (root_of_handle handle)

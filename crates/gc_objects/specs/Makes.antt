@@ -14,31 +14,31 @@ use Rattle.gc_values.specs.declared.root.GcRootIndex.{GcRootIndex}
 use Rattle.gc_rooted.specs.declared.rooted.Rooted.{Rooted}
 use Rattle.gc_values.specs.declared.faults.PlaceFault.{PlaceFault}
 use Rattle.gc_values.specs.declared.faults.PlaceFault.TheVariants as place
-use Rattle.gc_store.specs.Places.{Places, PlacesObject, RefusesPlace, HasIds, bytes_of}
+use Rattle.gc_store.specs.Places.{Places, PlacesObject, RefusesPlace, HasIds, size_in_table}
 use Rattle.gc_values.specs.declared.request.Place.{Place}
 use Rattle.gc_values.specs.declared.request.Place.TheVariants as request
-use Rattle.gc_store.specs.Requests.{fields_of, exn_fields_of, element_of, CanPlaceStruct, CanPlaceException, CanPlaceElements}
+use Rattle.gc_store.specs.Requests.{struct_fields_of, exn_fields_of, element_of, CanPlaceStruct, CanPlaceException, CanPlaceElements}
 use Rattle.gc_store.specs.Values.{AllStand}
 use Rattle.gc_store.specs.Roots.{NamesReference}
 use Rattle.gc_objects.specs.declared.faults.AllocFault.{AllocFault}
 use Rattle.gc_objects.specs.declared.faults.AllocFault.TheVariants as fault
 use Rattle.gc_objects.specs.declared.val.Val.{Val}
 use Rattle.gc_objects.specs.Kinds.{is_type_of}
-use Rattle.gc_objects.specs.Given.{raw_of, is_own_of, are_own, field_types, element_types, Goes, AllGo, IsGone, Misfits, FirstGone, FirstMisfit}
+use Rattle.gc_objects.specs.Given.{raw_of, is_own_of, are_own, field_types, element_types, Goes, AllGo, ValIsGone, Misfits, FirstGone, FirstMisfit}
 
 -- the faults of a call that gives nothing back
 abbrev pub Fault : Type 0
 Fault = AllocFault (Unit {0})
 
 -- what the store answered, by the faults of such a call
-abbrev pub asked : Result GcRootIndex PlaceFault → Result GcRootIndex Fault
-asked (Ok root) = Ok root
-asked (Err place.FuncTableFull) = Err fault.FuncTableFull
-asked (Err place.ContTableFull) = Err fault.ContTableFull
-asked (Err place.TooLarge) = Err fault.TooLarge
-asked (Err place.RootsFull) = Err fault.RootsFull
-asked (Err (place.HeapOutOfMemory f)) = Err (fault.HeapOutOfMemory f)
-asked (Err place.Memory) = Err fault.Memory
+abbrev pub place_answer : Result GcRootIndex PlaceFault → Result GcRootIndex Fault
+place_answer (Ok root) = Ok root
+place_answer (Err place.FuncTableFull) = Err fault.FuncTableFull
+place_answer (Err place.ContTableFull) = Err fault.ContTableFull
+place_answer (Err place.TooLarge) = Err fault.TooLarge
+place_answer (Err place.RootsFull) = Err fault.RootsFull
+place_answer (Err (place.HeapOutOfMemory f)) = Err (fault.HeapOutOfMemory f)
+place_answer (Err place.Memory) = Err fault.Memory
 
 -- the answer of such a call by the root of its handle
 abbrev pub handle_answer : {T : Type 0} → Result (Rooted T) Fault → Result GcRootIndex Fault
@@ -48,7 +48,7 @@ handle_answer (Err why) = Err why
 -- No heap can hold the object. There are ids for its function values and continuations, which are looked at before its size,
 -- but behind an array's length that doesn't fit 32 bits.
 pub record RefusesLarge {D : Type 0} (layouts : Layouts) (o : Object D) (p : PolicyState D) (limits' : Limits) (new : StoreView D) : Type 0 where
-  pub large : too_large layouts (bytes_of layouts o p.table) ≡ true
+  pub large : too_large layouts (size_in_table layouts o p.table) ≡ true
   pub has_ids : length (object_values o) < 2 ^ 32 → HasIds o p.table
   pub refuses : RefusesPlace layouts p limits' new
 
@@ -79,7 +79,7 @@ IsArrayOf s t ty vs o = (xs : List Value) × (AllStand s t (map raw_of vs) xs ×
 
 -- the object of these values
 abbrev pub IsMadeOf : {D : Type 0} → StoreView D → Table D → Place → List Val → Object D → Type 0
-IsMadeOf s t (request.Struct ty) vs o = (xs : List Value) × (AllStand s t (map raw_of vs) xs × (o ≡ struct ty (stored_in (fields_of t.types ty) xs)))
+IsMadeOf s t (request.Struct ty) vs o = (xs : List Value) × (AllStand s t (map raw_of vs) xs × (o ≡ struct ty (stored_in (struct_fields_of t.types ty) xs)))
 IsMadeOf s t (request.Exn ty tag) vs o = (xs : List Value) × (AllStand s t (map raw_of vs) xs
     × (o ≡ exception ty tag (stored_in (exn_fields_of t.types ty) xs)))
 IsMadeOf s t (request.Array ty count) vs o = IsArrayOf s t ty vs o
@@ -88,13 +88,13 @@ IsMadeOf s t (request.Array ty count) vs o = IsArrayOf s t ty vs o
 pub record MakesObject {D : Type 0} (asks : Object D → Type 0) (layouts : Layouts) (counter : Option ℕ) (p : PolicyState D) (limits' : Limits)
     (handle : GcRootIndex) (new : StoreView D) : Type 0 where
   pub object : Object D
-  pub asked : asks object
+  pub place_answer : asks object
   pub placed : PlacesObject layouts counter object p limits' handle new
   pub named : NamesReference new (make object placed.after.table) handle (at (length p.table.objects))
 
 -- all tests passed, and the store refused the object
-abbrev pub Refuses : {D : Type 0} → (Object D → Type 0) → Layouts → Option ℕ → PolicyState D → Limits → PlaceFault → StoreView D → Type 0
-Refuses {D} asks layouts counter p limits' why new = (o : Object D) × (asks o × Places layouts counter o p limits' (Err why) new)
+abbrev pub RefusesAsked : {D : Type 0} → (Object D → Type 0) → Layouts → Option ℕ → PolicyState D → Limits → PlaceFault → StoreView D → Type 0
+RefusesAsked {D} asks layouts counter p limits' why new = (o : Object D) × (asks o × Places layouts counter o p limits' (Err why) new)
 
 -- all tests passed, and no heap can hold the object
 abbrev pub RefusesAsLarge : {D : Type 0} → (Object D → Type 0) → Layouts → PolicyState D → Limits → StoreView D → Type 0
@@ -110,12 +110,12 @@ Makes causes asks layouts counter p limits' (Err fault.FieldCount) new = causes 
 Makes causes asks layouts counter p limits' (Err fault.NotI8Array) new = causes fault.NotI8Array × RefusesPlace layouts p limits' new
 Makes causes asks layouts counter p limits' (Err fault.Unrooted) new = causes fault.Unrooted × RefusesPlace layouts p limits' new
 Makes causes asks layouts counter p limits' (Err fault.TypeMismatch) new = causes fault.TypeMismatch × RefusesPlace layouts p limits' new
-Makes causes asks layouts counter p limits' (Err fault.FuncTableFull) new = Refuses asks layouts counter p limits' place.FuncTableFull new
-Makes causes asks layouts counter p limits' (Err fault.ContTableFull) new = Refuses asks layouts counter p limits' place.ContTableFull new
+Makes causes asks layouts counter p limits' (Err fault.FuncTableFull) new = RefusesAsked asks layouts counter p limits' place.FuncTableFull new
+Makes causes asks layouts counter p limits' (Err fault.ContTableFull) new = RefusesAsked asks layouts counter p limits' place.ContTableFull new
 Makes causes asks layouts counter p limits' (Err fault.TooLarge) new = RefusesAsLarge asks layouts p limits' new
-Makes causes asks layouts counter p limits' (Err fault.RootsFull) new = Refuses asks layouts counter p limits' place.RootsFull new
-Makes causes asks layouts counter p limits' (Err (fault.HeapOutOfMemory f)) new = Refuses asks layouts counter p limits' (place.HeapOutOfMemory f) new
-Makes causes asks layouts counter p limits' (Err fault.Memory) new = Refuses asks layouts counter p limits' place.Memory new
+Makes causes asks layouts counter p limits' (Err fault.RootsFull) new = RefusesAsked asks layouts counter p limits' place.RootsFull new
+Makes causes asks layouts counter p limits' (Err (fault.HeapOutOfMemory f)) new = RefusesAsked asks layouts counter p limits' (place.HeapOutOfMemory f) new
+Makes causes asks layouts counter p limits' (Err fault.Memory) new = RefusesAsked asks layouts counter p limits' place.Memory new
 
 -- the allocator and the handles of all values are the store's
 abbrev pub are_given_own : {D : Type 0} → StoreView D → TypeName → List Val → Bool
@@ -130,7 +130,7 @@ pub record Tests {D : Type 0} (s : StoreView D) (ty : TypeName) (vs : List Val) 
 
 -- there is a value for each field
 abbrev pub HasAllFields : {D : Type 0} → Table D → TypeName → List Val → Type 0
-HasAllFields t ty vs = length vs ≡ length (fields_of t.types ty.index)
+HasAllFields t ty vs = length vs ≡ length (struct_fields_of t.types ty.index)
 
 -- why a struct is refused: the tests in their order, each value's root before its type
 abbrev pub StructCauses : {D : Type 0} → StoreView D → Table D → TypeName → List Val → Fault → Type 0
@@ -146,7 +146,7 @@ pub record AsksStruct {D : Type 0} (s : StoreView D) (t : Table D) (ty : TypeNam
   pub counted : HasAllFields t ty vs
   pub values : List Value
   pub go : AllGo s t (field_types t.types ty.index) vs values
-  pub object_is : o ≡ struct ty.index (stored_in (fields_of t.types ty.index) values)
+  pub object_is : o ≡ struct ty.index (stored_in (struct_fields_of t.types ty.index) values)
 
 -- why an array of listed elements is refused
 abbrev pub ElementsCauses : {D : Type 0} → StoreView D → Table D → TypeName → List Val → Fault → Type 0
@@ -174,7 +174,7 @@ pub record TestsFilling {D : Type 0} (s : StoreView D) (ty : TypeName) (v : Val)
 
 abbrev pub FillingCauses : {D : Type 0} → StoreView D → Table D → TypeName → Val → ℕ → Fault → Type 0
 FillingCauses s t ty v count fault.WrongStore = is_filling_own s ty v count ≡ false
-FillingCauses s t ty v count fault.Unrooted = TestsFilling s ty v count (IsGone s t v)
+FillingCauses s t ty v count fault.Unrooted = TestsFilling s ty v count (ValIsGone s t v)
 FillingCauses s t ty v count fault.TypeMismatch = TestsFilling s ty v count (Misfits s t (elem_at t.types ty.index) v)
 FillingCauses s t ty v count _ = ⊥
 

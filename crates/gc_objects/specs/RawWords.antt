@@ -9,9 +9,9 @@ use Rattle.gc_policy.specs.Accounts.{Account}
 use Rattle.gc_values.specs.declared.root.RootFault.{RootFault}
 use Rattle.gc_rooted.specs.declared.rooted.Rooted.{Rooted}
 use Rattle.gc_store.specs.RawWords.{PushesWord}
-use Rattle.gc_objects.specs.Given.{root_of}
+use Rattle.gc_objects.specs.Given.{root_of_handle}
 
 -- a new scoped root for the reference with a word, by a typed handle; null gets none
 abbrev pub TakesWord : {D T : Type 0} → Layouts → Table D → Placing → Account → Reference → Result (Option (Rooted T)) RootFault → StoreView D → Type 0
-TakesWord layouts t place a r (Ok found) new = PushesWord layouts t place a r (Ok (root_of found)) new
+TakesWord layouts t place a r (Ok found) new = PushesWord layouts t place a r (Ok (root_of_handle found)) new
 TakesWord layouts t place a r (Err why) new = PushesWord layouts t place a r (Err why) new

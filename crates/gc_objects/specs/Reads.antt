@@ -34,7 +34,7 @@ pub record IsTypedAt {D : Type 0} (s : StoreView D) (t : Table D) (handle : GcRo
   pub field_is : value_type t.types has.object index ≡ Some field
 
 -- so in some table that the store holds
-pub record IsTyped (D : Type 0) (layouts : Layouts) (s : StoreView D) (handle : GcRootIndex) (index : ℕ) (field : FieldType) : Type 0 where
+pub record IsTypedSomewhere (D : Type 0) (layouts : Layouts) (s : StoreView D) (handle : GcRootIndex) (index : ℕ) (field : FieldType) : Type 0 where
   pub table : Table D
   pub holds : HoldsTable layouts s table
   pub typed : IsTypedAt s table handle index field

@@ -14,7 +14,7 @@ use Rattle.gc_store.specs.Roots.{is_of_store, NamesReference, NamesNothing}
 use Rattle.gc_store.specs.Thrown.{AnswersPending}
 use Rattle.gc_objects.specs.declared.throwing.ThrowFault.{ThrowFault}
 use Rattle.gc_objects.specs.declared.throwing.ThrowFault.TheVariants as fault
-use Rattle.gc_objects.specs.Given.{root_of}
+use Rattle.gc_objects.specs.Given.{root_of_handle}
 
 -- what a throw answers, by what making the exception pending did
 abbrev pub thrown : {X : Type 0} → Result (Unit {0}) RootFault → Result X ThrowFault
@@ -35,5 +35,5 @@ Throws layouts old t a handle (Err fault.ThrownException) new =
 
 -- what taking the pending exception answers and leaves, by a typed handle
 abbrev pub TakesThrown : {D T : Type 0} → Layouts → Table D → Account → Result (Option (Rooted T)) RootFault → StoreView D → Type 0
-TakesThrown layouts t a (Ok handle) new = AnswersPending layouts t a (Ok (root_of handle)) new
+TakesThrown layouts t a (Ok handle) new = AnswersPending layouts t a (Ok (root_of_handle handle)) new
 TakesThrown layouts t a (Err why) new = AnswersPending layouts t a (Err why) new

@@ -21,8 +21,8 @@ use Rattle.gc_objects.specs.declared.val.Val.{Val}
 use Rattle.gc_objects.specs.Given.{raw_of, ValNamesKind}
 
 -- how many of these values are references, null or not
-abbrev pub reference_count : List Value → ℕ
-reference_count values = length (flat_map value_references values)
+abbrev pub reference_value_count : List Value → ℕ
+reference_value_count values = length (flat_map value_references values)
 
 -- how many of these fields keep references
 abbrev pub is_reference_field : Option FieldType → Bool
@@ -37,7 +37,7 @@ reference_fields [] = 0
 reference_fields (field ∷ fields) = one_if (is_gc_storage field.element_type) + reference_fields fields
 
 -- the handle names an object
-pub record NamesObject {D : Type 0} (s : StoreView D) (t : Table D) (handle : GcRootIndex) : Type 0 where
+pub record HandleNamesObject {D : Type 0} (s : StoreView D) (t : Table D) (handle : GcRootIndex) : Type 0 where
   pub position : ℕ
   pub named : NamesReference s t handle (at position)
   pub object : Object D
@@ -45,9 +45,9 @@ pub record NamesObject {D : Type 0} (s : StoreView D) (t : Table D) (handle : Gc
 
 -- it has so many values, so many references among them
 pub record HasCounts {D : Type 0} (s : StoreView D) (t : Table D) (handle : GcRootIndex) (len references : ℕ) : Type 0 where
-  pub names : NamesObject s t handle
+  pub names : HandleNamesObject s t handle
   pub len_is : len ≡ length (object_values names.object)
-  pub references_are : references ≡ reference_count (object_values names.object)
+  pub references_are : references ≡ reference_value_count (object_values names.object)
 
 -- An object whose values are being read: the store, a root of the object, the index of the next value, and how many
 -- there are.
@@ -63,7 +63,7 @@ run_of s root next len = record { store = s; root = root; next = next; len = len
 -- The store holds that table, with that account, and in it these values of the object are left, in their order.
 pub record HasLeft {D : Type 0} (layouts : Layouts) (run : ValueRun D) (t : Table D) (a : Account) (left : List Value) : Type 0 where
   pub holds : HoldsAccount layouts run.store t a
-  pub names : NamesObject run.store t run.root
+  pub names : HandleNamesObject run.store t run.root
   pub len_is : run.len ≡ length (object_values names.object)
   pub within : run.next ≤ run.len
   pub left_is : drop run.next (object_values names.object) ≡ left
@@ -83,11 +83,11 @@ pub record CanGive (D : Type 0) (layouts : Layouts) (run : ValueRun D) : Type 0 
   pub account : Account
   pub left : List Value
   pub has : HasLeft layouts run table account left
-  pub may_root : reference_count left ≤ roots_left table
-  pub room : reference_count left ≤ run.store.spare
+  pub may_root : reference_value_count left ≤ roots_left table
+  pub room : reference_value_count left ≤ run.store.spare
 
 -- what asking for the next value gives and leaves
-pub record Gives (D : Type 0) (layouts : Layouts) (old : ValueRun D) (given : Option Val) (new : ValueRun D) : Type 0 where
+pub record GivesNext (D : Type 0) (layouts : Layouts) (old : ValueRun D) (given : Option Val) (new : ValueRun D) : Type 0 where
   pub first : (t : Table D) (a : Account) (left : List Value) → HasLeft layouts old t a left → GivesFirst layouts t a left given new
   pub kind : IfSome given (ValNamesKind D layouts new.store)
   pub ready : CanGive D layouts new
@@ -96,9 +96,9 @@ pub record Gives (D : Type 0) (layouts : Layouts) (old : ValueRun D) (given : Op
 
 -- all values of the object that the handle names are left
 pub record LeavesAll {D : Type 0} (layouts : Layouts) (old : StoreView D) (t : Table D) (a : Account) (handle : GcRootIndex) (run : ValueRun D) : Type 0 where
-  pub names : NamesObject old t handle
+  pub names : HandleNamesObject old t handle
   pub all : HasLeft layouts run t a (object_values names.object)
-  pub may_root : reference_count (object_values names.object) ≤ roots_left t
+  pub may_root : reference_value_count (object_values names.object) ≤ roots_left t
 
 -- Why the values are not read: as many roots as there are references among them may no longer be made, or no room is found for
 -- these.
@@ -110,11 +110,11 @@ RefusesValues s t handle fault.Immutable = ⊥
 RefusesValues s t handle fault.TypeMismatch = ⊥
 RefusesValues s t handle fault.LengthMismatch = ⊥
 RefusesValues s t handle fault.NotI8Array = ⊥
-RefusesValues s t handle fault.RootsFull = (named : NamesObject s t handle) × (roots_left t < reference_count (object_values named.object))
+RefusesValues s t handle fault.RootsFull = (named : HandleNamesObject s t handle) × (roots_left t < reference_value_count (object_values named.object))
 RefusesValues s t handle fault.FuncTableFull = ⊥
 RefusesValues s t handle fault.ContTableFull = ⊥
 RefusesValues s t handle fault.Memory =
-    (named : NamesObject s t handle) × ((reference_count (object_values named.object) ≤ roots_left t) × (s.spare < reference_count (object_values named.object)))
+    (named : HandleNamesObject s t handle) × ((reference_value_count (object_values named.object) ≤ roots_left t) × (s.spare < reference_value_count (object_values named.object)))
 
 -- nothing of the store changed, but that there may be room for more scoped roots
 pub record LeavesRoom {D : Type 0} (old new : StoreView D) : Type 0 where

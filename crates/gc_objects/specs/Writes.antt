@@ -18,7 +18,7 @@ use Rattle.gc_objects.specs.declared.faults.AccessFault.{AccessFault}
 use Rattle.gc_objects.specs.declared.faults.AccessFault.TheVariants as fault
 use Rattle.gc_objects.specs.declared.val.Val.{Val}
 use Rattle.gc_objects.specs.declared.val.Val.TheVariants as val
-use Rattle.gc_objects.specs.Given.{raw_of, is_own, Goes, IsGone, Misfits}
+use Rattle.gc_objects.specs.Given.{raw_of, is_own, Goes, ValIsGone, Misfits}
 use Rattle.gc_objects.specs.Reads.{IsOutside}
 
 -- the handle and that of the value are the store's
@@ -56,7 +56,7 @@ abbrev pub lacks_id : {D : Type 0} → (SideValues → SideValues → Bool) → 
 lacks_id full t x = full (side_values (x ∷ [])) t.interned
 
 -- the field or element has the value now, as its type keeps it
-pub record WritesAt {D : Type 0} (layouts : Layouts) (old : StoreView D) (t : Table D) (a : Account) (handle : GcRootIndex)
+pub record WritesThere {D : Type 0} (layouts : Layouts) (old : StoreView D) (t : Table D) (a : Account) (handle : GcRootIndex)
     (index : ℕ) (v : Val) (new : StoreView D) : Type 0 where
   pub there : GoesThere old t handle index v
   pub has_function_id : lacks_id functions_full t there.value ≡ false
@@ -81,7 +81,7 @@ pub record TakesId {D : Type 0} (s : StoreView D) (t : Table D) (handle : GcRoot
 
 -- the value's root is gone, or it doesn't fit, where the field or element is mutable
 abbrev pub LosesValue : {D : Type 0} → StoreView D → Table D → GcRootIndex → ℕ → Val → Type 0
-LosesValue s t handle index v = TypedAs s t handle index Var (λ field. IsGone s t v)
+LosesValue s t handle index v = TypedAs s t handle index Var (λ field. ValIsGone s t v)
 
 abbrev pub RefusesValue : {D : Type 0} → StoreView D → Table D → GcRootIndex → ℕ → Val → Type 0
 RefusesValue s t handle index v = TypedAs s t handle index Var (λ field. Misfits s t (Some field) v)
@@ -94,7 +94,7 @@ IsPastEnd s t handle index v = TypedAs s t handle index Var (λ field. (x : Valu
 -- the kind of the object: a field is looked for before its type is asked, an element last.
 abbrev pub Sets : {D : Type 0} → Type 0 → Layouts → StoreView D → Table D → Account → GcRootIndex → ℕ → Val → Result (Unit {0}) AccessFault
     → StoreView D → Type 0
-Sets Outside layouts old t a handle index v (Ok done) new = (are_own_both old handle v ≡ true) × WritesAt layouts old t a handle index v new
+Sets Outside layouts old t a handle index v (Ok done) new = (are_own_both old handle v ≡ true) × WritesThere layouts old t a handle index v new
 Sets Outside layouts old t a handle index v (Err fault.WrongStore) new = are_own_both old handle v ≡ false
 Sets Outside layouts old t a handle index v (Err fault.Unrooted) new =
     (are_own_both old handle v ≡ true) × (NamesNothing old t handle ⊎ LosesValue old t handle index v)

@@ -10,7 +10,7 @@ ghost use Rattle.gc_store.specs.Values.{CanWrite};
 ghost use Rattle.gc_store.specs.Stores.{IsSameStore, scoped_places};
 ghost use Rattle.gc_objects.specs.Given.{raw_of, ValNamesKind};
 ghost use Rattle.gc_objects.specs.Answered.{Answers, HasField};
-ghost use Rattle.gc_objects.specs.Reads.{IsTyped, ReadsAs, ReadsAt};
+ghost use Rattle.gc_objects.specs.Reads.{IsTypedSomewhere, ReadsAs, ReadsAt};
 ghost use Rattle.gc_objects.specs.Writes.{WritesAs};
 
 use crate::faults::{AccessFault, accessed};
@@ -47,7 +47,7 @@ pub(crate) fn read_found<H: GcHeap, D: Drop>(
     root: GcRootIndex,
     found: Result<Option<NamedField>, RootFault>,
 ) -> Result<Val, AccessFault>
-    requires { IfOk found (λ some. IfSome some (λ named. IsTyped D H.KIND store.old root named.index named.field)) }
+    requires { IfOk found (λ some. IfSome some (λ named. IsTypedSomewhere D H.KIND store.old root named.index named.field)) }
     ensures reads { (t : Table D) (a : Account) (index : ℕ) → HoldsAccount H.KIND store.old t a
         → Answers store.old t (is_of_store store.old root) root (HasField t index) found
         → ReadsAt H.KIND store.old t a root index result store.new }

@@ -9,7 +9,7 @@ ghost use Rattle.gc_model.specs.Table.{Table};
 ghost use Rattle.gc_model.specs.Values.{Reference};
 ghost use Rattle.gc_policy.specs.Accounts.{Account, HoldsAccount};
 ghost use Rattle.gc_policy.specs.Policy.{policy_state};
-ghost use Rattle.gc_store.specs.HostLends.{LendsValue, lends_host};
+ghost use Rattle.gc_store.specs.HostLends.{LendsValue, store_lends_host};
 ghost use Rattle.gc_store.specs.Roots.{is_of_store, NamesReference, NamesNothing};
 ghost use Rattle.gc_store.specs.Stores.{IsSameStore, scoped_places};
 ghost use Rattle.gc_store.specs.Kinds.{NamesKind, IsScopedOfKind};
@@ -78,7 +78,7 @@ impl ExternRef {
         store: &'a mut Store<H, D>,
         this: &R,
     ) -> Result<&'a mut D, HostDataFault>
-        ensures* writes_back { sem 𝓛 (lends_host H.row D.row H.State.row H.GcHeap store.entry (R.index this.now) result) }
+        ensures* writes_back { sem 𝓛 (store_lends_host H.row D.row H.State.row H.GcHeap store.entry (R.index this.now) result) }
         ensures wrong_store { is_of_store store.old (R.index this.now) ≡ false → IsErrAnd result (λ fault. fault ≡ HostDataFault.WrongStore) }
         ensures live { (t : Table D) (r : Reference) → HoldsTable H.KIND store.old t → NamesReference store.old t (R.index this.now) r
             → LendsValue (host_value_of t r) result }

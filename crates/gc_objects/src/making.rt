@@ -10,7 +10,7 @@ ghost use Rattle.gc_store.specs.Kinds.{NamesKind, IsScopedOfKind};
 ghost use Rattle.gc_store.specs.Requests.{CanPlaceIn, CanPlaceElements, CanPlaceBytes, IsObjectOf};
 ghost use Rattle.gc_store.specs.Stores.{IsSameStore, scoped_places};
 ghost use Rattle.gc_objects.specs.Given.{raw_of};
-ghost use Rattle.gc_objects.specs.Makes.{asked, handle_answer, MakesAsked, CanMakeOf, IsMadeOf, IsArrayOf};
+ghost use Rattle.gc_objects.specs.Makes.{place_answer, handle_answer, MakesAsked, CanMakeOf, IsMadeOf, IsArrayOf};
 
 use crate::faults::AllocFault;
 use crate::val::{Val, raw_of};
@@ -33,7 +33,7 @@ fn raw_values(alloc: Global, values: &[Val]) -> Result<Vec<RawValue>, AllocError
 
 /// What the store answered, by the faults of a call that gives nothing back.
 fn asked(answer: Result<GcRootIndex, PlaceFault>) -> Result<GcRootIndex, AllocFault<()>>
-    ensures { result ≡ asked answer }
+    ensures { result ≡ place_answer answer }
 {
     match answer {
         Ok(root) => Ok(root),

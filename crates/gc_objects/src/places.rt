@@ -8,9 +8,9 @@ ghost use Rattle.gc_model.specs.Table.{Table};
 ghost use Rattle.gc_model.specs.Values.{Reference};
 ghost use Rattle.gc_store.specs.Roots.{is_of_store, IsReference, FindsRoot, NamesReference, TellsReference};
 ghost use Rattle.gc_store.specs.Kinds.{NamesKind};
-ghost use Rattle.gc_objects.specs.Answered.{Answers, IsStruct, IsNamedArray, HasField, IsFieldOf, number_in, struct_in, array_in};
+ghost use Rattle.gc_objects.specs.Answered.{Answers, IsStruct, IsNamedArray, HasField, IsFieldOf, i31_in, struct_in, named_array_in};
 ghost use Rattle.gc_objects.specs.Exns.{IsNamedExn, exn_in};
-ghost use Rattle.gc_objects.specs.Reads.{IsTyped};
+ghost use Rattle.gc_objects.specs.Reads.{IsTypedSomewhere};
 
 use gc_heap::GcHeap;
 use gc_refs::I31;
@@ -40,7 +40,7 @@ pub(crate) struct NamedField {
 
 /// The 31-bit number that a reference is, where it is one.
 pub(crate) fn number_in(object: &RootedObject) -> Option<I31>
-    ensures { result ≡ number_in object.now }
+    ensures { result ≡ i31_in object.now }
 {
     match object {
         RootedObject::I31(number) => Some(*number),
@@ -66,7 +66,7 @@ pub(crate) fn struct_in(object: &RootedObject) -> Option<VMSharedTypeIndex>
 
 /// The array that a reference is, where it is one.
 pub(crate) fn array_in(object: &RootedObject) -> Option<NamedArray>
-    ensures { result ≡ array_in object.now }
+    ensures { result ≡ named_array_in object.now }
 {
     match object {
         RootedObject::I31(_) => None,
@@ -216,7 +216,7 @@ pub(crate) fn field_at<H: GcHeap, D: Drop>(
     index: usize,
 ) -> Result<Option<NamedField>, RootFault>
     requires { NamesKind D H.KIND store.now VMGcKind.StructRef root }
-    ensures typed { IfOk result (λ found. IfSome found (λ named. IsTyped D H.KIND store.now root named.index named.field)) }
+    ensures typed { IfOk result (λ found. IfSome found (λ named. IsTypedSomewhere D H.KIND store.now root named.index named.field)) }
     ensures answers { (t : Table D) → HoldsTable H.KIND store.now t → Answers store.now t (is_of_store store.now root) root (HasField t index) result }
 {
     match struct_at(store, root) {
@@ -232,7 +232,7 @@ pub(crate) fn param_at<H: GcHeap, D: Drop>(
     index: usize,
 ) -> Result<Option<NamedField>, RootFault>
     requires { NamesKind D H.KIND store.now VMGcKind.ExnRef root }
-    ensures typed { IfOk result (λ found. IfSome found (λ named. IsTyped D H.KIND store.now root named.index named.field)) }
+    ensures typed { IfOk result (λ found. IfSome found (λ named. IsTypedSomewhere D H.KIND store.now root named.index named.field)) }
     ensures answers { (t : Table D) → HoldsTable H.KIND store.now t → Answers store.now t (is_of_store store.now root) root (HasField t index) result }
 {
     match exn_at(store, root) {

@@ -11,7 +11,7 @@ ghost use Rattle.gc_store.specs.Roots.{is_of_store, NamesReference, NamesNothing
 ghost use Rattle.gc_store.specs.Stores.{IsSameStore, scoped_places};
 ghost use Rattle.gc_store.specs.Kinds.{NamesKind};
 ghost use Rattle.gc_store.specs.RawWords.{IsRawWord};
-ghost use Rattle.gc_objects.specs.Given.{root_of};
+ghost use Rattle.gc_objects.specs.Given.{root_of_handle};
 ghost use Rattle.gc_objects.specs.RawWords.{TakesWord};
 
 use crate::marks::ExternRef;
@@ -48,7 +48,7 @@ impl ExternRef {
         requires { IsRawWord D H.KIND store.old VMGcKind.ExternRef raw }
         ensures takes { (t : Table D) (place : Placing) (a : Account) (r : Reference) → HoldsThere H.KIND store.old t place a → IsWord place r raw
             → TakesWord H.KIND t place a r result store.new }
-        ensures null { IfOk result (λ found. (root_of found ≡ None) ↔ (raw ≡ 0)) }
+        ensures null { IfOk result (λ found. (root_of_handle found ≡ None) ↔ (raw ≡ 0)) }
         ensures kind { IfOk result (λ found. IfSome found (λ handle. NamesKind D H.KIND store.new VMGcKind.ExternRef handle.index)) }
         ensures err { OnErr result (store.new ≡ store.old) }
         ensures same { IsSameStore store.old store.new }

@@ -63,7 +63,7 @@ impl<H: GcHeap, D: Drop> StoreExn for Store<H, D> {
     ghost use Rattle.gc_policy.specs.Accounts.{Account, HoldsAccount};
     ghost use Rattle.gc_store.specs.Stores.{IsSameStore, scoped_places};
     ghost use Rattle.gc_store.specs.Kinds.{NamesKind};
-    ghost use Rattle.gc_objects.specs.Given.{root_of, RootNamesKind};
+    ghost use Rattle.gc_objects.specs.Given.{root_of_handle, RootNamesKind};
     ghost use Rattle.gc_objects.specs.Thrown.{Throws, TakesThrown};
 
     ghost may_throw = { λ s root. NamesKind D H.KIND s VMGcKind.ExnRef root };
@@ -85,7 +85,7 @@ impl<H: GcHeap, D: Drop> StoreExn for Store<H, D> {
 
     fn take_pending_exception(&mut self) -> Result<Option<Rooted<ExnRef>>, RootFault>
         ensures takes { (t : Table D) (a : Account) → HoldsAccount H.KIND self.old t a → TakesThrown H.KIND t a result self.new }
-        ensures kind { IfOk result (λ handle. RootNamesKind D H.KIND self.new VMGcKind.ExnRef (root_of handle)) }
+        ensures kind { IfOk result (λ handle. RootNamesKind D H.KIND self.new VMGcKind.ExnRef (root_of_handle handle)) }
         ensures err { OnErr result (self.new ≡ self.old) }
         ensures same { IsSameStore self.old self.new }
         ensures spare { scoped_places self.old ≤ scoped_places self.new }

@@ -32,7 +32,8 @@ pub trait Upcast {
         ensures { Self.EqRoot.index result ≡ root self };
 }
 
-/// Marks of structs and of arrays: references of class any that can be compared and are no 31-bit numbers.
+/// Marks of structs and of arrays: references of class any that can be compared and are no 31-bit numbers. A mark of the
+/// embedder's own has to be such a one too, as its handles become those of class any with no test.
 pub trait CompoundRef: GcRef {}
 
 impl CompoundRef for StructRef {}

@@ -3,8 +3,8 @@
 ghost use Rattle.std.specs.Prelude.{◌≡◌};
 ghost use Rattle.gc_model.specs.Holds.{HoldsTable};
 ghost use Rattle.gc_model.specs.Table.{Table};
-ghost use Rattle.gc_objects.specs.Given.{root_of, raw_of, class_kind, IsGiven, RootIsOfKind};
-ghost use Rattle.gc_objects.specs.Answered.{FitsType};
+ghost use Rattle.gc_objects.specs.Given.{root_of_handle, raw_of, class_kind, IsGiven, RootIsOfKind};
+ghost use Rattle.gc_objects.specs.Answered.{ValFitsType};
 
 use crate::fits::raw_matches_ty;
 use crate::marks::{AnyRef, ExnRef, ExternRef};
@@ -33,7 +33,7 @@ pub enum Val {
 
 /// The root of a handle, where there is one.
 fn root_of<T: GcRef>(handle: &Option<Rooted<T>>) -> Option<GcRootIndex>
-    ensures { result ≡ root_of handle.now }
+    ensures { result ≡ root_of_handle handle.now }
 {
     match handle {
         Some(handle) => Some(handle.root_index()),
@@ -65,7 +65,7 @@ fn handle_of<H: GcHeap, D: Drop, T: GcRef>(
     root: Option<GcRootIndex>,
 ) -> Option<Rooted<T>>
     requires { RootIsOfKind D H.KIND store.now T.KIND root }
-    ensures { root_of result ≡ root }
+    ensures { root_of_handle result ≡ root }
 {
     match root {
         Some(root) => Some(Rooted::from_gc_root_index(store, root)),
@@ -117,7 +117,7 @@ impl Val {
         store: &Store<H, D>,
         ty: &ValType,
     ) -> Result<bool, RootFault>
-        ensures { (t : Table D) → HoldsTable H.KIND store.now t → FitsType store.now t ty.now self.now result }
+        ensures { (t : Table D) → HoldsTable H.KIND store.now t → ValFitsType store.now t ty.now self.now result }
     {
         raw_matches_ty(store, &raw_of(self), ty)
     }

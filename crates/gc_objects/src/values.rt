@@ -5,7 +5,7 @@ ghost use Rattle.std.specs.Iterator.{at_most, IsFinite};
 ghost use Rattle.gc_model.specs.Table.{Table};
 ghost use Rattle.gc_model.specs.Values.{Value};
 ghost use Rattle.gc_policy.specs.Accounts.{Account};
-ghost use Rattle.gc_objects.specs.ValueRuns.{HasLeft, CanGive, Gives, run_of};
+ghost use Rattle.gc_objects.specs.ValueRuns.{HasLeft, CanGive, GivesNext, run_of};
 
 use crate::access::read;
 use crate::val::Val;
@@ -52,7 +52,7 @@ impl<'a, H: GcHeap, D: Drop> Iterator for Values<'a, H, D> {
 
     ghost can_next = { λ s. CanGive D H.KIND (run_of s.store.now s.root s.next s.len) };
 
-    ghost next_gives = { λ s given t. Gives D H.KIND (run_of s.store.now s.root s.next s.len) given (run_of t.store.now t.root t.next t.len)
+    ghost next_gives = { λ s given t. GivesNext D H.KIND (run_of s.store.now s.root s.next s.len) given (run_of t.store.now t.root t.next t.len)
         × (t.store.ghost_name ≡ s.store.ghost_name) };
 
     ghost remaining = { λ s. at_most (s.len - s.next) };

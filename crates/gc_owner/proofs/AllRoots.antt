@@ -7,7 +7,7 @@ use Rattle.gc_heap.specs.Collection.{moved, moved_root}
 use Rattle.gc_owner.specs.declared.entry.RootEntry.{RootEntry}
 use Rattle.gc_owner.specs.declared.entry.OwnedEntry.{OwnedEntry}
 use Rattle.gc_owner.specs.declared.entry.SlotEntry.{SlotEntry}
-use Rattle.gc_owner.specs.RootColumns.{RootsView, scoped_words, owned_words, slot_words, global_words, listed_as, roots_of, all_roots, moved_roots, Follow}
+use Rattle.gc_owner.specs.RootColumns.{RootsView, scoped_words, owned_words, frame_slot_words, global_words, listed_as, roots_of, all_roots, moved_roots, ColumnFollows}
 use Rattle.gc_owner.proofs.ListedRoots.{listed_moved}
 use Rattle.gc_owner.proofs.TakenColumns.{Taken, readable, next_word}
 
@@ -49,16 +49,16 @@ module _ (to : ℕ → ℕ) (scoped : List RootEntry) (owned : List OwnedEntry) 
   abbrev pub behind3 : List Root
   behind3 = map (moved_root to) l4
 
-  pub follow0 : Follow 0 roots to 0 false (map (λ (e : RootEntry). e.word) scoped) behind0
+  pub follow0 : ColumnFollows 0 roots to 0 false (map (λ (e : RootEntry). e.word) scoped) behind0
   follow0 = is ∙ map-append (moved_root to) l0 (l1 ++ (l2 ++ (l3 ++ l4)))
 
-  pub follow1 : (at : ℕ) → drop at roots ≡ behind0 → Follow at roots to 1 false (map (λ (e : OwnedEntry). e.word) owned) behind1
+  pub follow1 : (at : ℕ) → drop at roots ≡ behind0 → ColumnFollows at roots to 1 false (map (λ (e : OwnedEntry). e.word) owned) behind1
   follow1 at from = from ∙ map-append (moved_root to) l1 (l2 ++ (l3 ++ l4))
 
-  pub follow2 : (at : ℕ) → drop at roots ≡ behind1 → Follow at roots to 2 true (map (λ (e : SlotEntry). e.word) slots) behind2
+  pub follow2 : (at : ℕ) → drop at roots ≡ behind1 → ColumnFollows at roots to 2 true (map (λ (e : SlotEntry). e.word) slots) behind2
   follow2 at from = from ∙ map-append (moved_root to) l2 (l3 ++ l4)
 
-  pub follow3 : (at : ℕ) → drop at roots ≡ behind2 → Follow at roots to 3 false (map (λ (e : SlotEntry). e.word) globals) behind3
+  pub follow3 : (at : ℕ) → drop at roots ≡ behind2 → ColumnFollows at roots to 3 false (map (λ (e : SlotEntry). e.word) globals) behind3
   follow3 at from = from ∙ map-append (moved_root to) l3 l4
 
   taken4 : (at : ℕ) → drop at roots ≡ behind3 → Taken (λ (w : ℕ). w) (λ (w v : ℕ). v) to 4 false [] (pending ∷ []) roots (pending ∷ []) 0 at
@@ -88,12 +88,12 @@ pub all_moved : (to : ℕ → ℕ) (r : RootsView) → ((x : Root) → Contains 
 all_moved to r keeps =
     let l0 : List Root = listed_as 0 false (scoped_words r) in
     let l1 : List Root = listed_as 1 false (owned_words r) in
-    let l2 : List Root = listed_as 2 true (slot_words r) in
+    let l2 : List Root = listed_as 2 true (frame_slot_words r) in
     let l3 : List Root = listed_as 3 false (global_words r) in
     let l4 : List Root = listed_as 4 false (r.pending ∷ []) in
     let e0 = ap (listed_as 0 false) (scoped_moved to r.scoped) ∙ listed_moved to 0 false (scoped_words r) (λ x i. keeps x (Contains-append_left l0 (l1 ++ (l2 ++ (l3 ++ l4))) x i)) in
     let e1 = ap (listed_as 1 false) (owned_moved to r.owned) ∙ listed_moved to 1 false (owned_words r) (λ x i. keeps x (Contains-append_right l0 (l1 ++ (l2 ++ (l3 ++ l4))) x (Contains-append_left l1 (l2 ++ (l3 ++ l4)) x i))) in
-    let e2 = ap (listed_as 2 true) (slots_moved to r.slots) ∙ listed_moved to 2 true (slot_words r)
+    let e2 = ap (listed_as 2 true) (slots_moved to r.slots) ∙ listed_moved to 2 true (frame_slot_words r)
     (λ x i. keeps x (Contains-append_right l0 (l1 ++ (l2 ++ (l3 ++ l4))) x (Contains-append_right l1 (l2 ++ (l3 ++ l4)) x (Contains-append_left l2 (l3 ++ l4) x i)))) in
     let e3 = ap (listed_as 3 false) (slots_moved to r.globals) ∙ listed_moved to 3 false (global_words r)
     (λ x i. keeps x (Contains-append_right l0 (l1 ++ (l2 ++ (l3 ++ l4))) x (Contains-append_right l1 (l2 ++ (l3 ++ l4)) x (Contains-append_right l2 (l3 ++ l4) x (Contains-append_left l3 l4 x i))))) in

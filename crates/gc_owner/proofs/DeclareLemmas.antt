@@ -14,7 +14,7 @@ use Rattle.gc_types.specs.declared.layout.GcArrayLayout.{GcArrayLayout}
 use Rattle.gc_types.specs.declared.types.TypeFault.{TypeFault}
 use Rattle.gc_types.specs.declared.types.TypeFault.TheVariants.{BadType, Memory}
 use Rattle.gc_types.specs.Declarable.{Declarable}
-use Rattle.gc_types.specs.Declarations.{Declaration, TypeTable, TypeName, declare, declaration_elem}
+use Rattle.gc_types.specs.Declarations.{Declaration, TypeTable, TypeName, with_declaration, declaration_elem}
 use Rattle.gc_types.specs.Layouts.{declaration_trace, declaration_layout, array_layout, layout_at, array_layout_at}
 use Rattle.gc_refs.specs.Trace.{form_of}
 use Rattle.gc_roots.specs.Roots.{Root}
@@ -28,9 +28,9 @@ use Rattle.gc_heap.specs.Collection.{Stage, Start, AreCounted, names_of, occurre
 use Rattle.gc_heap.proofs.AgainLemmas.{external_offsets}
 use Rattle.gc_owner.specs.RootColumns.{RootsView, roots_of}
 use Rattle.gc_owner.specs.Owners.{OwnerView, OwnerValue, InOrder, owner_value}
-use Rattle.gc_owner.specs.Declares.{Declares}
+use Rattle.gc_owner.specs.Declares.{AppendsType}
 use Rattle.gc_owner.specs.Tracing.{IsTraced, IsCollectable}
-use Rattle.gc_owner.proofs.OwnerLemmas.{kind_of, ready_at, idle_at, in_order}
+use Rattle.gc_owner.proofs.OwnerLemmas.{heap_kind, ready_at, idle_at, in_order}
 
 -- a declared type is the same in the longer table
 struct_kept : (layouts : Layouts) (types : List Declaration) (d : Declaration) (ty : ℕ) (layout : GcStructLayout) → layout_at layouts types ty ≡ Some layout → slice_get (types ++ d ∷ []) ty ≡ slice_get types ty
@@ -157,7 +157,7 @@ collectable_more layouts types d h roots hosts heap can =
 
 -- what a type table ensures of a declaration
 pub record TypesDeclare (d : Declaration) (old new : TypeTable) (r : Result TypeName TypeFault) : Type 0 where
-  pub declared : OnOk r (new ≡ declare d old)
+  pub declared : OnOk r (new ≡ with_declaration d old)
   pub named : IfOk r (λ ty. ty ≡ record { engine = old.engine; number = old.number; index = length old.declarations })
   pub declarable : OnOk r (Declarable old.declarations d)
   pub bad : r ≡ Err BadType → ¬ Declarable old.declarations d
@@ -169,7 +169,7 @@ table_more layouts d old new h roots hosts (Ok ty) heap did can =
     subst (λ (t : TypeTable). IsCollectable layouts t.declarations h roots hosts) (sym did.declared) (collectable_more layouts old.declarations d h roots hosts heap can)
 table_more layouts d old new h roots hosts (Err e) heap did can = subst (λ (t : TypeTable). IsCollectable layouts t.declarations h roots hosts) (sym did.err) can
 
-declares : {D : Type 0} (d : Declaration) (old : OwnerView D) (types : TypeTable) (r : Result TypeName TypeFault) → TypesDeclare d old.types types r → Declares old (record old { types = types }) d r
+declares : {D : Type 0} (d : Declaration) (old : OwnerView D) (types : TypeTable) (r : Result TypeName TypeFault) → TypesDeclare d old.types types r → AppendsType old (record old { types = types }) d r
 declares d old types (Ok ty) did = (did.declarable, (did.named, ap (λ (t : TypeTable). record old { types = t }) did.declared))
 declares d old types (Err BadType) did = (did.bad refl, ap (λ (t : TypeTable). record old { types = t }) did.err)
 declares d old types (Err Memory) did = ap (λ (t : TypeTable). record old { types = t }) did.err
@@ -177,12 +177,12 @@ declares d old types (Err Memory) did = ap (λ (t : TypeTable). record old { typ
 -- The same of an owner by its parts
 module _ {H S D : Type 0} (layouts : Layouts) (seen : H → HeapView) (sound : H → Type 0) (under_way : Start → ℕ → Bool → Stage H S → Type 0)
     (heap : H) (types : TypeTable) (hosts : FinMap nat_cmp D) (roots : RootsView) (last : ℕ) (state : Option S) (is_heap : (h : H) → sound h → IsHeap layouts (seen h))
-    (now : OwnerValue H S D) (order : InOrder (kind_of layouts seen sound under_way) (owner_value (seen heap) types hosts roots last heap state) state)
+    (now : OwnerValue H S D) (order : InOrder (heap_kind layouts seen sound under_way) (owner_value (seen heap) types hosts roots last heap state) state)
     (is : owner_value (seen heap) types hosts roots last heap state ≡ now) (idle : now.seen.idle ≡ true) (d : Declaration) (types' : TypeTable) (r : Result TypeName TypeFault) (did : TypesDeclare d types types' r) where
-  pub declared_order : InOrder (kind_of layouts seen sound under_way) (owner_value (seen heap) types' hosts roots last heap state) state
+  pub declared_order : InOrder (heap_kind layouts seen sound under_way) (owner_value (seen heap) types' hosts roots last heap state) state
   declared_order =
       let ready = ready_at layouts seen sound under_way heap types hosts roots last state now order is idle in
-      in_order (kind_of layouts seen sound under_way) (owner_value (seen heap) types' hosts roots last heap state) state (idle_at layouts seen sound under_way heap types hosts roots last state now is idle) (record {
+      in_order (heap_kind layouts seen sound under_way) (owner_value (seen heap) types' hosts roots last heap state) state (idle_at layouts seen sound under_way heap types hosts roots last state now is idle) (record {
         sound = ready.sound;
         can = table_more layouts d types types' (seen heap) (roots_of roots) (has_host hosts) r (is_heap heap ready.sound) did ready.can;
         unlisted = ready.unlisted;
@@ -190,7 +190,7 @@ module _ {H S D : Type 0} (layouts : Layouts) (seen : H → HeapView) (sound : H
         placed = ready.placed;
       })
 
-  pub declared_seen : Declares now.seen (owner_value (seen heap) types' hosts roots last heap state).seen d r
+  pub declared_seen : AppendsType now.seen (owner_value (seen heap) types' hosts roots last heap state).seen d r
   declared_seen =
-      subst (λ (v : OwnerValue H S D). Declares v.seen (owner_value (seen heap) types' hosts roots last heap state).seen d r) is
+      subst (λ (v : OwnerValue H S D). AppendsType v.seen (owner_value (seen heap) types' hosts roots last heap state).seen d r) is
       (declares d (owner_value (seen heap) types hosts roots last heap state).seen types' r did)

@@ -18,7 +18,7 @@ use Rattle.gc_heap.specs.Collection.{CanCollect, IsWordOf}
 use Rattle.gc_heap.proofs.AddedLemmas.{start}
 use Rattle.gc_heap.proofs.RootedLemmas.{can_collect_cloned, can_collect_exposed, can_collect_unstacked}
 use Rattle.gc_owner.specs.declared.entry.SlotEntry.{SlotEntry}
-use Rattle.gc_owner.specs.RootColumns.{RootsView, scoped_words, owned_words, slot_words, global_words, listed_as, roots_of, empty_slot, newest_start, with_frame, without_frame, with_places, RiseFrom, AreFrames}
+use Rattle.gc_owner.specs.RootColumns.{RootsView, scoped_words, owned_words, frame_slot_words, global_words, listed_as, roots_of, empty_slot, newest_start, with_frame, without_frame, with_places, RiseFrom, AreFrames}
 use Rattle.gc_owner.proofs.ListUse.{list_use}
 use Rattle.gc_owner.specs.Owners.{raised}
 use Rattle.gc_owner.specs.ShownWords.{copied_to_slot}
@@ -152,7 +152,7 @@ module _ (r : RootsView) (place : ℕ) (entry : SlotEntry) (below : place < leng
       (subst (λ ws. IsCollectable layouts types h' (before_slots r ++ (listed_as 2 true ws ++ behind_slots r)) hosts) (sym now)
       (slot_replaced layouts types (before_slots r) 2 (behind_slots r) hosts h (words front) (words later) old_entry.word entry.word
       (subst (λ ws. IsCollectable layouts types h (before_slots r ++ (listed_as 2 true ws ++ behind_slots r)) hosts) was
-      (subst (λ rs. IsCollectable layouts types h rs hosts) (around_slots r (slot_words r)) can)) is heap))
+      (subst (λ rs. IsCollectable layouts types h rs hosts) (around_slots r (frame_slot_words r)) can)) is heap))
 
 -- a frame was opened
 no_words : (count : ℕ) → listed_as 2 true (words (replicate count empty_slot)) ≡ []
@@ -161,11 +161,11 @@ no_words (suc count) = no_words count
 
 pub frame_roots : (count : ℕ) (r : RootsView) → roots_of (with_frame count r) ≡ roots_of r
 frame_roots count r =
-    let same : listed_as 2 true (words (r.slots ++ replicate count empty_slot)) ≡ listed_as 2 true (slot_words r) =
+    let same : listed_as 2 true (words (r.slots ++ replicate count empty_slot)) ≡ listed_as 2 true (frame_slot_words r) =
     ap (listed_as 2 true) (map-append (λ (e : SlotEntry). e.word) r.slots (replicate count empty_slot))
-    ∙ listed-append 2 true (slot_words r) (words (replicate count empty_slot))
-    ∙ ap (λ (rs : List Root). listed_as 2 true (slot_words r) ++ rs) (no_words count)
-    ∙ append-nil (listed_as 2 true (slot_words r)) in
+    ∙ listed-append 2 true (frame_slot_words r) (words (replicate count empty_slot))
+    ∙ ap (λ (rs : List Root). listed_as 2 true (frame_slot_words r) ++ rs) (no_words count)
+    ∙ append-nil (listed_as 2 true (frame_slot_words r)) in
     ap (λ rs. listed_as 0 false (scoped_words r) ++ (listed_as 1 false (owned_words r) ++ (rs ++ behind_slots r))) same
 
 -- What a call that opens a frame answers and leaves.
@@ -193,12 +193,12 @@ along_err P Q (Err e) leads is = leads is
 -- slots were closed
 slots_left : (layouts : Layouts) (types : List Declaration) (h : HeapView) (r : RootsView) (hosts : ℕ → Bool) (count : ℕ) → IsCollectable layouts types h (roots_of r) hosts → IsCollectable layouts types h (roots_of (record r { slots = take count r.slots })) hosts
 slots_left layouts types h r hosts count can =
-    let split : slot_words r ≡ words (take count r.slots) ++ words (drop count r.slots) =
+    let split : frame_slot_words r ≡ words (take count r.slots) ++ words (drop count r.slots) =
     ap words (sym (take-append-drop count r.slots)) ∙ map-append (λ (e : SlotEntry). e.word) (take count r.slots) (drop count r.slots) in
     subst (λ rs. IsCollectable layouts types h rs hosts) (sym (around_slots r (words (take count r.slots))))
     (words_unstacked layouts types (before_slots r) 2 (behind_slots r) hosts h (words (take count r.slots)) (words (drop count r.slots))
     (subst (λ ws. IsCollectable layouts types h (before_slots r ++ (listed_as 2 true ws ++ behind_slots r)) hosts) split
-    (subst (λ rs. IsCollectable layouts types h rs hosts) (around_slots r (slot_words r)) can)))
+    (subst (λ rs. IsCollectable layouts types h rs hosts) (around_slots r (frame_slot_words r)) can)))
 
 pub frame_left : (layouts : Layouts) (types : List Declaration) (h : HeapView) (r : RootsView) (hosts : ℕ → Bool) → IsCollectable layouts types h (roots_of r) hosts → IsCollectable layouts types h (roots_of (without_frame r)) hosts
 frame_left layouts types h r hosts can = slots_left layouts types h r hosts (newest_start r) can

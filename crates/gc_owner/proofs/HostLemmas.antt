@@ -25,13 +25,13 @@ use Rattle.gc_owner.specs.HostSteps.{PutsIn, PutsValue}
 use Rattle.gc_owner.specs.declared.allocate.Description.TheVariants as of
 use Rattle.gc_owner.specs.RootColumns.{RootsView, roots_of}
 use Rattle.gc_owner.specs.Owners.{OwnerView, OwnerValue, Collects, CanBegin, IsReady, InOrder, owner_value}
-use Rattle.gc_owner.specs.Growing.{OwnerState, state_of, Readies, Grows, owner_rules}
+use Rattle.gc_owner.specs.Growing.{OwnerState, state_of, Readies, GrowsReadied, owner_rules}
 use Rattle.gc_owner.specs.Retry.{Retry, Paused, Growing}
 use Rattle.gc_owner.specs.Tracing.{IsCollectable}
-use Rattle.gc_owner.specs.Makes.{IsFreeHost, CanMake, LacksSpace}
+use Rattle.gc_owner.specs.Makes.{IsFreeHost, CanMakeDescribed, LacksSpace}
 use Rattle.gc_owner.specs.HostValues.{with_host, TakesBack}
 use Rattle.gc_owner.proofs.Begins.{with_memory}
-use Rattle.gc_owner.proofs.OwnerLemmas.{kind_of, in_order}
+use Rattle.gc_owner.proofs.OwnerLemmas.{heap_kind, in_order}
 use Rattle.gc_owner.proofs.RetryLemmas.{CanTry, collected_try, grown_try}
 
 -- The table of host values
@@ -116,8 +116,8 @@ puts_value {D} layouts v value new (Err (slab.Memory back)) can is = (is.0, ap (
 -- an owner is ready with other host values, where a collection may begin with them
 pub hosts_order : {H S D : Type 0} (layouts : Layouts) (seen : H → HeapView) (sound : H → Type 0) (under_way : Start → ℕ → Bool → Stage H S → Type 0) (heap : H) (types : TypeTable) (hosts : FinMap nat_cmp D) (roots : RootsView) (last : ℕ) (state : Option S)
     (hosts' : FinMap nat_cmp D) → is_none state ≡ true → IsReady layouts (sound heap) (owner_value (seen heap) types hosts roots last heap state).seen → IsCollectable layouts types.declarations (seen heap) (roots_of roots) (has_host hosts')
-    → InOrder (kind_of layouts seen sound under_way) (owner_value (seen heap) types hosts' roots last heap state) state
-hosts_order layouts seen sound under_way heap types hosts roots last state hosts' idle ready can = in_order (kind_of layouts seen sound under_way) (owner_value (seen heap) types hosts' roots last heap state) state idle (record {
+    → InOrder (heap_kind layouts seen sound under_way) (owner_value (seen heap) types hosts' roots last heap state) state
+hosts_order layouts seen sound under_way heap types hosts roots last state hosts' idle ready can = in_order (heap_kind layouts seen sound under_way) (owner_value (seen heap) types hosts' roots last heap state) state idle (record {
   sound = ready.sound;
   can = can;
   unlisted = ready.unlisted;
@@ -150,7 +150,7 @@ module _ {D : Type 0} (layouts : Layouts) (id : ℕ) (value : D) where
   readied_value s e has (inl collected) = collected_value s.owner e.owner has collected.1.0
   readied_value s e has (inr same) = subst (λ (x : OwnerState D). HasValue layouts id value x.owner) (sym same.1) has
 
-  grown_value : (bytes : ℕ) (s : OwnerState D) (granted : Bool) (e : OwnerState D) → HasValue layouts id value s.owner → Grows layouts bytes s granted e → HasValue layouts id value e.owner
+  grown_value : (bytes : ℕ) (s : OwnerState D) (granted : Bool) (e : OwnerState D) → HasValue layouts id value s.owner → GrowsReadied layouts bytes s granted e → HasValue layouts id value e.owner
   grown_value bytes s granted e has grows = record {
     at = grown_try layouts (of.External id) (external id) (external_size layouts) bytes s granted e has.at grows;
     value_is = ap (λ (x : OwnerState D). get x.owner.hosts id) grows.after ∙ (readied_value s grows.ready has grows.readied).value_is;
@@ -178,7 +178,7 @@ module _ {D : Type 0} (layouts : Layouts) (id : ℕ) (value : D) where
 
   module _ (s : OwnerState D) (put : OwnerView D) (fresh : get s.owner.hosts id ≡ None) (is_put : put ≡ with_host id value s.owner) (free : IsFreeHost put id) (heap : IsHeap layouts put.heap) (can : CanBegin layouts put)
       (idle : s.owner.idle ≡ true) (attached : s.owner.heap.attached ≡ true) (room : 0 < s.owner.roots.spare) (few : length s.owner.roots.scoped < 2 ^ 32) where
-    can_place : CanMake layouts put (of.External id)
+    can_place : CanMakeDescribed layouts put (of.External id)
     can_place = record {
       idle = ap (λ (v : OwnerView D). v.idle) is_put ∙ idle;
       attached = ap (λ (v : OwnerView D). v.heap.attached) is_put ∙ attached;
@@ -224,8 +224,8 @@ module _ {D : Type 0} (layouts : Layouts) (id : ℕ) (value : D) where
       taken_wanting paused = takes_back (paused_value (state_of put s.limits) end has_put paused) (Paused (owner_rules layouts (external_size layouts))) paused
 
     -- the id may be given back
-    pub free_lacking : (end : OwnerState D) (need : ℕ) → LacksSpace layouts (external_size layouts) (state_of put s.limits) end need → CanMake layouts end.owner (of.External id)
+    pub free_lacking : (end : OwnerState D) (need : ℕ) → LacksSpace layouts (external_size layouts) (state_of put s.limits) end need → CanMakeDescribed layouts end.owner (of.External id)
     free_lacking end need lacks = (retried_value (state_of put s.limits) false end has_put lacks.retried).at.make
 
-    pub free_wanting : (end : OwnerState D) → Paused (owner_rules layouts (external_size layouts)) (state_of put s.limits) end → CanMake layouts end.owner (of.External id)
+    pub free_wanting : (end : OwnerState D) → Paused (owner_rules layouts (external_size layouts)) (state_of put s.limits) end → CanMakeDescribed layouts end.owner (of.External id)
     free_wanting end paused = (paused_value (state_of put s.limits) end has_put paused).at.make

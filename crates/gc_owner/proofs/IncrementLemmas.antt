@@ -14,11 +14,11 @@ use Rattle.gc_heap.specs.declared.collection.GcProgress.TheVariants as progress
 use Rattle.gc_heap.proofs.AddedLemmas.{start}
 use Rattle.gc_owner.specs.RootColumns.{RootsView, roots_of, moved_roots, with_list, without_list}
 use Rattle.gc_owner.specs.Going.{IsListed, StepsRoots, HasMovedList, Settles}
-use Rattle.gc_owner.specs.Owners.{OwnerView, OwnerValue, IsReady, InOrder, Goes, IsGoing, IsUnderWay, IncrementsCounted, CollectsRoots, owner_value, start_of}
+use Rattle.gc_owner.specs.Owners.{OwnerView, OwnerValue, IsReady, InOrder, CollectionGoes, IsGoing, IsOwnerUnderWay, IncrementsCounted, CollectsRoots, owner_value, start_of}
 use Rattle.gc_owner.specs.Tracing.{AreTraced, IsCollectable}
 use Rattle.gc_owner.proofs.Begins.{memory_same, memory_heap}
 use Rattle.gc_owner.proofs.CollectedRoots.{collects_roots}
-use Rattle.gc_owner.proofs.OwnerLemmas.{kind_of, ready_at, idle_at}
+use Rattle.gc_owner.proofs.OwnerLemmas.{heap_kind, ready_at, idle_at}
 
 -- three things are what they were
 three_same : {A B C : Type 0} (P : A → B → C → Type 0) (a a' : A) (b b' : B) (c c' : C) → a' ≡ a → b' ≡ b → c' ≡ c → P a b c → P a' b' c'
@@ -45,7 +45,7 @@ completed layouts s r r' new listed hosts' heap can traced from done after moves
 
 module _ {H S D : Type 0} (layouts : Layouts) (seen : H → HeapView) (sound : H → Type 0) (under_way : Start → ℕ → Bool → Stage H S → Type 0) where
   -- A collection begins
-  module _ (heap : H) (types : TypeTable) (hosts : FinMap nat_cmp D) (roots : RootsView) (last : ℕ) (was : Option S) (now : OwnerValue H S D) (order : InOrder (kind_of layouts seen sound under_way) (owner_value (seen heap) types hosts roots last heap was) was)
+  module _ (heap : H) (types : TypeTable) (hosts : FinMap nat_cmp D) (roots : RootsView) (last : ℕ) (was : Option S) (now : OwnerValue H S D) (order : InOrder (heap_kind layouts seen sound under_way) (owner_value (seen heap) types hosts roots last heap was) was)
       (is : owner_value (seen heap) types hosts roots last heap was ≡ now) (idle : now.seen.idle ≡ true) (attached : now.seen.heap.attached ≡ true) (is_heap : (h : H) → sound h → IsHeap layouts (seen h)) where
     ready : IsReady layouts (sound heap) (owner_value (seen heap) types hosts roots last heap was).seen
     ready = ready_at layouts seen sound under_way heap types hosts roots last was now order is idle
@@ -57,7 +57,7 @@ module _ {H S D : Type 0} (layouts : Layouts) (seen : H → HeapView) (sound : H
     attached_at = ap (λ (v : OwnerValue H S D). v.seen.heap.attached) is ∙ attached
 
     pub begun_goes : (roots' : RootsView) (state : S) → roots' ≡ with_list (roots_of roots) roots → ((s : Start) → sound heap → seen heap ≡ s.heap → CanCollect layouts s → under_way s 0 true (record { heap = heap; state = state; roots = s.roots; types = s.types; hosts = s.hosts }))
-        → Goes (kind_of layouts seen sound under_way) begins 0 true (owner_value (seen heap) types hosts roots' last heap (Some state)) state
+        → CollectionGoes (heap_kind layouts seen sound under_way) begins 0 true (owner_value (seen heap) types hosts roots' last heap (Some state)) state
     begun_goes roots' state listed starts = record {
       listed = roots_of roots;
       listed_is = ap (λ (r : RootsView). r.listed) listed;
@@ -73,9 +73,9 @@ module _ {H S D : Type 0} (layouts : Layouts) (seen : H → HeapView) (sound : H
     }
 
     pub begun_way : (roots' : RootsView) (state : S) → roots' ≡ with_list (roots_of roots) roots → roots.given ≡ 0 → ((s : Start) → sound heap → seen heap ≡ s.heap → CanCollect layouts s → under_way s 0 true (record { heap = heap; state = state; roots = s.roots; types = s.types; hosts = s.hosts }))
-        → IsGoing (kind_of layouts seen sound under_way) (start_of now.seen) 0 true now (owner_value (seen heap) types hosts roots' last heap (Some state))
+        → IsGoing (heap_kind layouts seen sound under_way) (start_of now.seen) 0 true now (owner_value (seen heap) types hosts roots' last heap (Some state))
     begun_way roots' state listed none starts =
-        subst (λ (b : OwnerValue H S D). IsGoing (kind_of layouts seen sound under_way) (start_of b.seen) 0 true b (owner_value (seen heap) types hosts roots' last heap (Some state))) is (record {
+        subst (λ (b : OwnerValue H S D). IsGoing (heap_kind layouts seen sound under_way) (start_of b.seen) 0 true b (owner_value (seen heap) types hosts roots' last heap (Some state))) is (record {
           state = state;
           state_is = refl;
           goes = begun_goes roots' state listed starts;
@@ -95,18 +95,18 @@ module _ {H S D : Type 0} (layouts : Layouts) (seen : H → HeapView) (sound : H
     abbrev before : OwnerValue H S D
     before = owner_value (seen heap) types hosts roots last heap was
 
-    abbrev pub going : InOrder (kind_of layouts seen sound under_way) before was → InOrder (kind_of layouts seen sound under_way) before (Some state)
-    going order = subst (InOrder (kind_of layouts seen sound under_way) before) of_state order
+    abbrev pub going : InOrder (heap_kind layouts seen sound under_way) before was → InOrder (heap_kind layouts seen sound under_way) before (Some state)
+    going order = subst (InOrder (heap_kind layouts seen sound under_way) before) of_state order
 
-    pub is_listed : InOrder (kind_of layouts seen sound under_way) before was → IsListed under_way roots heap state types.declarations hosts
+    pub is_listed : InOrder (heap_kind layouts seen sound under_way) before was → IsListed under_way roots heap state types.declarations hosts
     is_listed order =
         let at = going order in
         let goes = at.1.1.1 in
         (goes.listed, (goes.listed_is, (at.0, (at.1.0, (at.1.1.0, goes.goes)))))
 
     -- the collection goes on
-    pub goes_on : (s : Start) (n : ℕ) (c : Bool) → Goes (kind_of layouts seen sound under_way) s n c before state → StepsRoots layouts under_way sound s n d roots roots' heap' (seen heap') state' types.declarations hosts' progress.Continue
-        → Goes (kind_of layouts seen sound under_way) s (n + 1) d (owner_value (seen heap') types hosts' roots' last heap' (Some state')) state'
+    pub goes_on : (s : Start) (n : ℕ) (c : Bool) → CollectionGoes (heap_kind layouts seen sound under_way) s n c before state → StepsRoots layouts under_way sound s n d roots roots' heap' (seen heap') state' types.declarations hosts' progress.Continue
+        → CollectionGoes (heap_kind layouts seen sound under_way) s (n + 1) d (owner_value (seen heap') types hosts' roots' last heap' (Some state')) state'
     goes_on s n c goes step = record {
       listed = step.listed;
       listed_is = ap (λ (r : RootsView). r.listed) step.roots;
@@ -122,15 +122,15 @@ module _ {H S D : Type 0} (layouts : Layouts) (seen : H → HeapView) (sound : H
     }
 
     -- a collection that began somewhere, as far as it has come
-    pub way_goes : (s : Start) (n : ℕ) (c : Bool) (begun now : OwnerValue H S D) → before ≡ now → IsUnderWay (kind_of layouts seen sound under_way) s n c begun now → Goes (kind_of layouts seen sound under_way) s n c before state
+    pub way_goes : (s : Start) (n : ℕ) (c : Bool) (begun now : OwnerValue H S D) → before ≡ now → IsOwnerUnderWay (heap_kind layouts seen sound under_way) s n c begun now → CollectionGoes (heap_kind layouts seen sound under_way) s n c before state
     way_goes s n c begun now is way =
-        let at = (subst (IsUnderWay (kind_of layouts seen sound under_way) s n c begun) (sym is) way).going in
-        subst (Goes (kind_of layouts seen sound under_way) s n c before) (same_Some at.state state (sym at.state_is ∙ of_state)) at.goes
+        let at = (subst (IsOwnerUnderWay (heap_kind layouts seen sound under_way) s n c begun) (sym is) way).going in
+        subst (CollectionGoes (heap_kind layouts seen sound under_way) s n c before) (same_Some at.state state (sym at.state_is ∙ of_state)) at.goes
 
-    pub way_on : (s : Start) (n : ℕ) (c : Bool) (begun now : OwnerValue H S D) → before ≡ now → IsUnderWay (kind_of layouts seen sound under_way) s n c begun now → StepsRoots layouts under_way sound s n d roots roots' heap' (seen heap') state' types.declarations hosts' progress.Continue → IsPartOf hosts' hosts
-        → IncrementsCounted (kind_of layouts seen sound under_way) s (n + 1) d begun (owner_value (seen heap') types hosts' roots' last heap' (Some state')) progress.Continue
+    pub way_on : (s : Start) (n : ℕ) (c : Bool) (begun now : OwnerValue H S D) → before ≡ now → IsOwnerUnderWay (heap_kind layouts seen sound under_way) s n c begun now → StepsRoots layouts under_way sound s n d roots roots' heap' (seen heap') state' types.declarations hosts' progress.Continue → IsPartOf hosts' hosts
+        → IncrementsCounted (heap_kind layouts seen sound under_way) s (n + 1) d begun (owner_value (seen heap') types hosts' roots' last heap' (Some state')) progress.Continue
     way_on s n c begun now is way step values =
-        let whole : IsUnderWay (kind_of layouts seen sound under_way) s n c begun before = subst (IsUnderWay (kind_of layouts seen sound under_way) s n c begun) (sym is) way in
+        let whole : IsOwnerUnderWay (heap_kind layouts seen sound under_way) s n c begun before = subst (IsOwnerUnderWay (heap_kind layouts seen sound under_way) s n c begun) (sym is) way in
         let at = whole.going in
         let from : OwnerView D = whole.trimmed.seen in (
           step.steps.0,
@@ -149,7 +149,7 @@ module _ {H S D : Type 0} (layouts : Layouts) (seen : H → HeapView) (sound : H
         )
 
     -- the collection is complete, and the roots take their words from the list
-    pub has_moved : (s : Start) (n : ℕ) (c : Bool) → Goes (kind_of layouts seen sound under_way) s n c before state → StepsRoots layouts under_way sound s n d roots roots' heap' (seen heap') state' types.declarations hosts' progress.Complete → HasMovedList roots'
+    pub has_moved : (s : Start) (n : ℕ) (c : Bool) → CollectionGoes (heap_kind layouts seen sound under_way) s n c before state → StepsRoots layouts under_way sound s n d roots roots' heap' (seen heap') state' types.declarations hosts' progress.Complete → HasMovedList roots'
     has_moved s n c goes step =
         let done = step.steps.1.1 in
         let from : s.roots ≡ roots_of roots' = goes.from ∙ sym (ap roots_of step.roots) in (
@@ -168,8 +168,8 @@ module _ {H S D : Type 0} (layouts : Layouts) (seen : H → HeapView) (sound : H
           takes to (listed_is ∙ ap (λ (rs : List Root). Some rs) (moved_list ∙ ap (map (moved_root to)) same))
           ∙ ap (moved_roots to) (ap without_list step.roots ∙ sym of_roots)
 
-      pub ends_ready : (s : Start) (n : ℕ) (c : Bool) → Goes (kind_of layouts seen sound under_way) s n c before state → StepsRoots layouts under_way sound s n d roots roots' heap' (seen heap') state' types.declarations hosts' progress.Complete
-          → InOrder (kind_of layouts seen sound under_way) (owner_value (seen heap') types hosts' roots'' last' heap' None) None
+      pub ends_ready : (s : Start) (n : ℕ) (c : Bool) → CollectionGoes (heap_kind layouts seen sound under_way) s n c before state → StepsRoots layouts under_way sound s n d roots roots' heap' (seen heap') state' types.declarations hosts' progress.Complete
+          → InOrder (heap_kind layouts seen sound under_way) (owner_value (seen heap') types hosts' roots'' last' heap' None) None
       ends_ready s n c goes step =
           let col = completed layouts s (without_list roots) roots'' (seen heap') step.listed (has_host hosts') goes.heap goes.can goes.traced goes.from step.steps.1.1 (is_heap heap' step.steps.1.0)
           (took s n (without_list roots) step refl step.listed (ap (λ (r : RootsView). r.listed) step.roots)) in
@@ -181,13 +181,13 @@ module _ {H S D : Type 0} (layouts : Layouts) (seen : H → HeapView) (sound : H
             placed = λ on. ap (λ (r : RootsView). r.has_places) col.moves ∙ goes.placed;
           }
 
-      pub way_ends : (s : Start) (n : ℕ) (c : Bool) (begun now : OwnerValue H S D) → before ≡ now → IsUnderWay (kind_of layouts seen sound under_way) s n c begun now → StepsRoots layouts under_way sound s n d roots roots' heap' (seen heap') state' types.declarations hosts' progress.Complete
-          → IsPartOf hosts' hosts → last' ≡ (seen heap').allocated → IncrementsCounted (kind_of layouts seen sound under_way) s (n + 1) d begun (owner_value (seen heap') types hosts' roots'' last' heap' None) progress.Complete
+      pub way_ends : (s : Start) (n : ℕ) (c : Bool) (begun now : OwnerValue H S D) → before ≡ now → IsOwnerUnderWay (heap_kind layouts seen sound under_way) s n c begun now → StepsRoots layouts under_way sound s n d roots roots' heap' (seen heap') state' types.declarations hosts' progress.Complete
+          → IsPartOf hosts' hosts → last' ≡ (seen heap').allocated → IncrementsCounted (heap_kind layouts seen sound under_way) s (n + 1) d begun (owner_value (seen heap') types hosts' roots'' last' heap' None) progress.Complete
       way_ends s n c begun now is way step values last_is =
-          let whole : IsUnderWay (kind_of layouts seen sound under_way) s n c begun before = subst (IsUnderWay (kind_of layouts seen sound under_way) s n c begun) (sym is) way in
+          let whole : IsOwnerUnderWay (heap_kind layouts seen sound under_way) s n c begun before = subst (IsOwnerUnderWay (heap_kind layouts seen sound under_way) s n c begun) (sym is) way in
           let at = whole.going in
           let from : OwnerView D = whole.trimmed.seen in
-          let goes : Goes (kind_of layouts seen sound under_way) (start_of from) n c before state = subst (λ (z : Start). Goes (kind_of layouts seen sound under_way) z n c before state) at.start (way_goes s n c begun now is way) in
+          let goes : CollectionGoes (heap_kind layouts seen sound under_way) (start_of from) n c before state = subst (λ (z : Start). CollectionGoes (heap_kind layouts seen sound under_way) z n c before state) at.start (way_goes s n c begun now is way) in
           let step' : StepsRoots layouts under_way sound (start_of from) n d roots roots' heap' (seen heap') state' types.declarations hosts' progress.Complete =
           subst (λ (z : Start). StepsRoots layouts under_way sound z n d roots roots' heap' (seen heap') state' types.declarations hosts' progress.Complete) at.start step in
           let of_roots : from.roots ≡ without_list roots = ap (λ (v : OwnerView D). v.roots) at.rest in
@@ -214,7 +214,7 @@ module _ {H S D : Type 0} (layouts : Layouts) (seen : H → HeapView) (sound : H
           )
 
     -- what settling needs and leaves, whatever the increment answers
-    pub can_settle : (p : GcProgress) (s : Start) (n : ℕ) (c : Bool) → Goes (kind_of layouts seen sound under_way) s n c before state → StepsRoots layouts under_way sound s n d roots roots' heap' (seen heap') state' types.declarations hosts' p → p ≡ progress.Complete
+    pub can_settle : (p : GcProgress) (s : Start) (n : ℕ) (c : Bool) → CollectionGoes (heap_kind layouts seen sound under_way) s n c before state → StepsRoots layouts under_way sound s n d roots roots' heap' (seen heap') state' types.declarations hosts' p → p ≡ progress.Complete
         → sound heap' × HasMovedList roots'
     can_settle p s n c goes step is =
         let last_step : StepsRoots layouts under_way sound s n d roots roots' heap' (seen heap') state' types.declarations hosts' progress.Complete =
@@ -222,21 +222,21 @@ module _ {H S D : Type 0} (layouts : Layouts) (seen : H → HeapView) (sound : H
         (last_step.steps.1.0, has_moved s n c goes last_step)
 
     pub settled_order : (p : GcProgress) (roots'' : RootsView) (last' : ℕ) (kept : Option S) → Settles state' (seen heap').allocated roots' roots'' last last' kept p → ((h : H) → sound h → IsHeap layouts (seen h))
-        → (s : Start) (n : ℕ) (c : Bool) → Goes (kind_of layouts seen sound under_way) s n c before state → StepsRoots layouts under_way sound s n d roots roots' heap' (seen heap') state' types.declarations hosts' p
-        → InOrder (kind_of layouts seen sound under_way) (owner_value (seen heap') types hosts' roots'' last' heap' kept) kept
+        → (s : Start) (n : ℕ) (c : Bool) → CollectionGoes (heap_kind layouts seen sound under_way) s n c before state → StepsRoots layouts under_way sound s n d roots roots' heap' (seen heap') state' types.declarations hosts' p
+        → InOrder (heap_kind layouts seen sound under_way) (owner_value (seen heap') types hosts' roots'' last' heap' kept) kept
     settled_order progress.Continue roots'' last' kept set is_heap s n c goes step =
-        three_same (λ (r : RootsView) (l : ℕ) (o : Option S). InOrder (kind_of layouts seen sound under_way) (owner_value (seen heap') types hosts' r l heap' o) o)
+        three_same (λ (r : RootsView) (l : ℕ) (o : Option S). InOrder (heap_kind layouts seen sound under_way) (owner_value (seen heap') types hosts' r l heap' o) o)
         roots' roots'' last last' (Some state') kept set.1 set.2 set.0 (s, (n + 1, (d, goes_on s n c goes step)))
     settled_order progress.Complete roots'' last' kept set is_heap s n c goes step =
-        subst (λ (o : Option S). InOrder (kind_of layouts seen sound under_way) (owner_value (seen heap') types hosts' roots'' last' heap' o) o) (sym set.0)
+        subst (λ (o : Option S). InOrder (heap_kind layouts seen sound under_way) (owner_value (seen heap') types hosts' roots'' last' heap' o) o) (sym set.0)
         (ends_ready roots'' last' set.2 is_heap s n c goes step)
 
     pub settled_way : (p : GcProgress) (roots'' : RootsView) (last' : ℕ) (kept : Option S) → Settles state' (seen heap').allocated roots' roots'' last last' kept p → ((h : H) → sound h → IsHeap layouts (seen h))
-        → (s : Start) (n : ℕ) (c : Bool) (begun now : OwnerValue H S D) → before ≡ now → IsUnderWay (kind_of layouts seen sound under_way) s n c begun now → StepsRoots layouts under_way sound s n d roots roots' heap' (seen heap') state' types.declarations hosts' p
-        → IsPartOf hosts' hosts → IncrementsCounted (kind_of layouts seen sound under_way) s (n + 1) d begun (owner_value (seen heap') types hosts' roots'' last' heap' kept) p
+        → (s : Start) (n : ℕ) (c : Bool) (begun now : OwnerValue H S D) → before ≡ now → IsOwnerUnderWay (heap_kind layouts seen sound under_way) s n c begun now → StepsRoots layouts under_way sound s n d roots roots' heap' (seen heap') state' types.declarations hosts' p
+        → IsPartOf hosts' hosts → IncrementsCounted (heap_kind layouts seen sound under_way) s (n + 1) d begun (owner_value (seen heap') types hosts' roots'' last' heap' kept) p
     settled_way progress.Continue roots'' last' kept set is_heap s n c begun now is way step values =
-        three_same (λ (r : RootsView) (l : ℕ) (o : Option S). IncrementsCounted (kind_of layouts seen sound under_way) s (n + 1) d begun (owner_value (seen heap') types hosts' r l heap' o) progress.Continue)
+        three_same (λ (r : RootsView) (l : ℕ) (o : Option S). IncrementsCounted (heap_kind layouts seen sound under_way) s (n + 1) d begun (owner_value (seen heap') types hosts' r l heap' o) progress.Continue)
         roots' roots'' last last' (Some state') kept set.1 set.2 set.0 (way_on s n c begun now is way step values)
     settled_way progress.Complete roots'' last' kept set is_heap s n c begun now is way step values =
-        subst (λ (o : Option S). IncrementsCounted (kind_of layouts seen sound under_way) s (n + 1) d begun (owner_value (seen heap') types hosts' roots'' last' heap' o) progress.Complete) (sym set.0)
+        subst (λ (o : Option S). IncrementsCounted (heap_kind layouts seen sound under_way) s (n + 1) d begun (owner_value (seen heap') types hosts' roots'' last' heap' o) progress.Complete) (sym set.0)
         (way_ends roots'' last' set.2 is_heap s n c begun now is way step values set.1)

@@ -10,17 +10,17 @@ use Rattle.gc_heap.proofs.CountLemmas.{words-append}
 use Rattle.gc_owner.specs.declared.entry.RootEntry.{RootEntry}
 use Rattle.gc_owner.specs.declared.entry.OwnedEntry.{OwnedEntry}
 use Rattle.gc_owner.specs.declared.entry.SlotEntry.{SlotEntry}
-use Rattle.gc_owner.specs.RootColumns.{RootsView, scoped_words, owned_words, slot_words, global_words, present, listed_as, roots_of, AreFew}
+use Rattle.gc_owner.specs.RootColumns.{RootsView, scoped_words, owned_words, frame_slot_words, global_words, non_null_words, listed_as, roots_of, AreFew}
 
 -- a word in front is a root where it isn't null
 pub listed_present : (place : ℕ) (b : Bool) (w : ℕ) (ws : List ℕ) → 0 < w → listed_as place b (w ∷ ws) ≡ root place b w ∷ listed_as place b ws
-listed_present place b w ws above = ap (λ t. map (λ v. root place b v) (cond (not t) (w ∷ present ws) (present ws))) (ne_eqb w 0 (λ e. absurd (omega arith)))
+listed_present place b w ws above = ap (λ t. map (λ v. root place b v) (cond (not t) (w ∷ non_null_words ws) (non_null_words ws))) (ne_eqb w 0 (λ e. absurd (omega arith)))
 
 pub listed_null : (place : ℕ) (b : Bool) (w : ℕ) (ws : List ℕ) → w ≡ 0 → listed_as place b (w ∷ ws) ≡ listed_as place b ws
-listed_null place b w ws null = ap (λ t. map (λ v. root place b v) (cond (not t) (w ∷ present ws) (present ws))) (eq-eqb w 0 null)
+listed_null place b w ws null = ap (λ t. map (λ v. root place b v) (cond (not t) (w ∷ non_null_words ws) (non_null_words ws))) (eq-eqb w 0 null)
 
 pub listed-append : (place : ℕ) (b : Bool) (xs ys : List ℕ) → listed_as place b (xs ++ ys) ≡ listed_as place b xs ++ listed_as place b ys
-listed-append place b xs ys = ap (map (λ w. root place b w)) (filter-append (λ w. not (nat_eq w 0)) xs ys) ∙ map-append (λ w. root place b w) (present xs) (present ys)
+listed-append place b xs ys = ap (map (λ w. root place b w)) (filter-append (λ w. not (nat_eq w 0)) xs ys) ∙ map-append (λ w. root place b w) (non_null_words xs) (non_null_words ys)
 
 -- what a test that makes a reference of a word says of the list
 pub listed_some : (place : ℕ) (b : Bool) (word held : ℕ) (made : Option ℕ) → SomeIff made (0 < word) word → made ≡ Some held → root place b held ∷ [] ≡ listed_as place b (word ∷ [])
@@ -58,12 +58,12 @@ held_listed : (place : ℕ) (ws : List ℕ) → length (held_words (listed_as pl
 held_listed place [] = omega arith
 held_listed place (w ∷ ws) =
     let rest = held_listed place ws in
-    elim (nat_eq w 0) as (λ t. length (held_words (map (λ v. root place false v) (cond (not t) (w ∷ present ws) (present ws)))) ≤ length (w ∷ ws)) [ true ↦ omega arith | false ↦ omega arith ]
+    elim (nat_eq w 0) as (λ t. length (held_words (map (λ v. root place false v) (cond (not t) (w ∷ non_null_words ws) (non_null_words ws)))) ≤ length (w ∷ ws)) [ true ↦ omega arith | false ↦ omega arith ]
 
 held_stacked : (place : ℕ) (ws : List ℕ) → length (held_words (listed_as place true ws)) ≡ 0
 held_stacked place [] = refl
 held_stacked place (w ∷ ws) =
-    elim (nat_eq w 0) as (λ t. length (held_words (map (λ v. root place true v) (cond (not t) (w ∷ present ws) (present ws)))) ≡ 0) [ true ↦ held_stacked place ws | false ↦ held_stacked place ws ]
+    elim (nat_eq w 0) as (λ t. length (held_words (map (λ v. root place true v) (cond (not t) (w ∷ non_null_words ws) (non_null_words ws)))) ≡ 0) [ true ↦ held_stacked place ws | false ↦ held_stacked place ws ]
 
 held_both : (xs ys : List Root) → length (held_words (xs ++ ys)) ≡ length (held_words xs) + length (held_words ys)
 held_both xs ys = ap (λ (ws : List ℕ). length ws) (words-append (λ (r : Root). not r.on_stack) xs ys) ∙ length-append (held_words xs) (held_words ys)
@@ -73,15 +73,15 @@ pub few_held : (r : RootsView) → AreFew r → length (held_words (roots_of r))
 few_held r few =
     let behind3 : List Root = listed_as 4 false (r.pending ∷ []) in
     let behind2 : List Root = listed_as 3 false (global_words r) ++ behind3 in
-    let behind1 : List Root = listed_as 2 true (slot_words r) ++ behind2 in
+    let behind1 : List Root = listed_as 2 true (frame_slot_words r) ++ behind2 in
     let behind0 : List Root = listed_as 1 false (owned_words r) ++ behind1 in
     let e0 = held_both (listed_as 0 false (scoped_words r)) behind0 in
     let e1 = held_both (listed_as 1 false (owned_words r)) behind1 in
-    let e2 = held_both (listed_as 2 true (slot_words r)) behind2 in
+    let e2 = held_both (listed_as 2 true (frame_slot_words r)) behind2 in
     let e3 = held_both (listed_as 3 false (global_words r)) behind3 in
     let n0 = held_listed 0 (scoped_words r) in
     let n1 = held_listed 1 (owned_words r) in
-    let n2 = held_stacked 2 (slot_words r) in
+    let n2 = held_stacked 2 (frame_slot_words r) in
     let n3 = held_listed 3 (global_words r) in
     let n4 = held_listed 4 (r.pending ∷ []) in
     let l0 = length-map r.scoped (λ (e : RootEntry). e.word) in

@@ -34,12 +34,12 @@ use Rattle.gc_heap.proofs.TakenLayouts.{taken_layout, taken_array}
 use Rattle.gc_heap.proofs.SpacedLemmas.{Spaced-in, spaced_fields, fields_from, aligned_fields, ref_width}
 use Rattle.gc_memory.proofs.ListLemmas.{contains_in}
 use Rattle.gc_heap.proofs.CountLemmas.{held-append, words-append}
-use Rattle.gc_owner.specs.RootColumns.{RootsView, scoped_words, owned_words, slot_words, global_words, listed_as, roots_of, with_scoped}
+use Rattle.gc_owner.specs.RootColumns.{RootsView, scoped_words, owned_words, frame_slot_words, global_words, listed_as, roots_of, with_scoped}
 use Rattle.gc_owner.specs.declared.allocate.Description.{Description}
 use Rattle.gc_owner.specs.declared.allocate.Description.TheVariants as of
 use Rattle.gc_owner.specs.Owners.{OwnerView}
 use Rattle.gc_owner.specs.Makes.{Describes}
-use Rattle.gc_owner.specs.Tries.{Tells}
+use Rattle.gc_owner.specs.Tries.{DescribesDeclared}
 use Rattle.gc_owner.specs.Tracing.{IsTraced, AreTraced, IsCollectable}
 use Rattle.gc_owner.proofs.Begins.{with_memory, memory_same}
 use Rattle.gc_owner.proofs.ListedRoots.{listed-append, listed_present}
@@ -118,7 +118,7 @@ module _ (layouts : Layouts) (types : List Declaration) (old new : HeapView) (wo
       → IsCollectable layouts types new (roots_of (with_scoped word r)) hosts
   made_scoped r hosts heap attached is can =
       let scoped : List Root = listed_as 0 false (scoped_words r) in
-      let behind : List Root = listed_as 1 false (owned_words r) ++ (listed_as 2 true (slot_words r) ++ (listed_as 3 false (global_words r) ++ listed_as 4 false (r.pending ∷ []))) in
+      let behind : List Root = listed_as 1 false (owned_words r) ++ (listed_as 2 true (frame_slot_words r) ++ (listed_as 3 false (global_words r) ++ listed_as 4 false (r.pending ∷ []))) in
       let one : List Root = root 0 false word ∷ [] in
       let more : listed_as 0 false (scoped_words (with_scoped word r)) ≡ scoped ++ one =
       ap (listed_as 0 false) (scoped_more word r) ∙ listed-append 0 false (scoped_words r) (word ∷ []) ∙ ap (λ rs. scoped ++ rs) (listed_present 0 false word [] adds.fresh.not_null) in
@@ -190,7 +190,7 @@ makeable layouts v (of.External id) o size (free, (is, sized)) =
     })
 
 -- and the types tell it
-pub told : {D : Type 0} (layouts : Layouts) (v : OwnerView D) (d : Description) (o : HeapObject) (size : ℕ) → Describes layouts v d o size → Tells layouts v.types.declarations d o size
+pub told : {D : Type 0} (layouts : Layouts) (v : OwnerView D) (d : Description) (o : HeapObject) (size : ℕ) → Describes layouts v d o size → DescribesDeclared layouts v.types.declarations d o size
 told layouts v (of.Object ty) o size (layout, (declared, (is, sized))) = (layout, (declared, (is, sized)))
 told layouts v (of.Array ty count) o size (layout, (declared, (small, (is, sized)))) = (layout, (declared, (is, sized)))
 told layouts v (of.External id) o size (free, (is, sized)) = (is, sized)

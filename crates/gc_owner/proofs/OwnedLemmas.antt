@@ -10,7 +10,7 @@ use Rattle.gc_view.specs.Heaps.{HeapView, SameHeld}
 use Rattle.gc_heap.specs.Content.{IsHeap}
 use Rattle.gc_heap.specs.Collection.{IsWordOf}
 use Rattle.gc_owner.specs.declared.entry.OwnedEntry.{OwnedEntry}
-use Rattle.gc_owner.specs.RootColumns.{RootsView, scoped_words, owned_words, slot_words, global_words, listed_as, roots_of, empty_entry, with_handles, with_places, with_owned_root, with_handle_count}
+use Rattle.gc_owner.specs.RootColumns.{RootsView, scoped_words, owned_words, frame_slot_words, global_words, listed_as, roots_of, empty_entry, with_handles, with_places, with_owned_root, with_handle_count}
 use Rattle.gc_owner.specs.Owners.{raised, lowered, CanDropWord}
 use Rattle.gc_owner.specs.DroppedRoots.{released}
 use Rattle.gc_owner.specs.Tracing.{IsCollectable}
@@ -21,7 +21,7 @@ abbrev before_owned : RootsView → List Root
 before_owned r = listed_as 0 false (scoped_words r)
 
 abbrev behind_owned : RootsView → List Root
-behind_owned r = listed_as 2 true (slot_words r) ++ (listed_as 3 false (global_words r) ++ listed_as 4 false (r.pending ∷ []))
+behind_owned r = listed_as 2 true (frame_slot_words r) ++ (listed_as 3 false (global_words r) ++ listed_as 4 false (r.pending ∷ []))
 
 abbrev words : List OwnedEntry → List ℕ
 words es = map (λ (e : OwnedEntry). e.word) es

@@ -17,9 +17,9 @@ use Rattle.gc_heap.proofs.AddedLemmas.{start}
 use Rattle.gc_heap.proofs.ClientLemmas.{can_collect_empty}
 use Rattle.gc_owner.specs.declared.entry.RootEntry.{RootEntry}
 use Rattle.gc_owner.specs.declared.entry.SlotEntry.{SlotEntry}
-use Rattle.gc_owner.specs.RootColumns.{RootsView, scoped_words, owned_words, slot_words, global_words, listed_as, roots_of, empty_slot, with_scoped, with_global}
+use Rattle.gc_owner.specs.RootColumns.{RootsView, scoped_words, owned_words, frame_slot_words, global_words, listed_as, roots_of, empty_slot, with_scoped, with_global}
 use Rattle.gc_owner.proofs.ListUse.{ListUse, list_use}
-pub use Rattle.gc_owner.specs.Owners.{kind_of}
+pub use Rattle.gc_owner.specs.Owners.{heap_kind}
 use Rattle.gc_owner.specs.Owners.{OwnerValue, Kind, IsReady, InOrder, owner_value, raised, lowered, CanDropWord, CollectsAll, CollectsRoots}
 use Rattle.gc_owner.specs.Tracing.{IsCollectable}
 use Rattle.gc_owner.specs.Limiters.{Limits}
@@ -58,7 +58,7 @@ pub scoped_more : (word : ℕ) (r : RootsView) → scoped_words (with_scoped wor
 scoped_more word r = map-append (λ (e : RootEntry). e.word) r.scoped ((record { generation = r.generation; word = word }) ∷ [])
 
 abbrev behind_scoped : RootsView → List Root
-behind_scoped r = listed_as 1 false (owned_words r) ++ (listed_as 2 true (slot_words r) ++ (listed_as 3 false (global_words r) ++ listed_as 4 false (r.pending ∷ [])))
+behind_scoped r = listed_as 1 false (owned_words r) ++ (listed_as 2 true (frame_slot_words r) ++ (listed_as 3 false (global_words r) ++ listed_as 4 false (r.pending ∷ [])))
 
 pub pushed_kept : (layouts : Layouts) (types : List Declaration) (h : HeapView) (r : RootsView) (hosts : ℕ → Bool) (word : ℕ) → IsCollectable layouts types h (roots_of r) hosts → IsWordOf h word
     → IsCollectable layouts types (raised h word) (roots_of (with_scoped word r)) hosts
@@ -70,12 +70,12 @@ pushed_kept layouts types h r hosts word can is =
 -- Globals
 
 abbrev before_globals : RootsView → List Root
-before_globals r = (listed_as 0 false (scoped_words r) ++ listed_as 1 false (owned_words r)) ++ listed_as 2 true (slot_words r)
+before_globals r = (listed_as 0 false (scoped_words r) ++ listed_as 1 false (owned_words r)) ++ listed_as 2 true (frame_slot_words r)
 
-around_globals : (r : RootsView) (rest : List Root) → listed_as 0 false (scoped_words r) ++ (listed_as 1 false (owned_words r) ++ (listed_as 2 true (slot_words r) ++ rest)) ≡ before_globals r ++ rest
+around_globals : (r : RootsView) (rest : List Root) → listed_as 0 false (scoped_words r) ++ (listed_as 1 false (owned_words r) ++ (listed_as 2 true (frame_slot_words r) ++ rest)) ≡ before_globals r ++ rest
 around_globals r rest =
-    sym (append_assoc (listed_as 0 false (scoped_words r)) (listed_as 1 false (owned_words r)) (listed_as 2 true (slot_words r) ++ rest))
-    ∙ sym (append_assoc (listed_as 0 false (scoped_words r) ++ listed_as 1 false (owned_words r)) (listed_as 2 true (slot_words r)) rest)
+    sym (append_assoc (listed_as 0 false (scoped_words r)) (listed_as 1 false (owned_words r)) (listed_as 2 true (frame_slot_words r) ++ rest))
+    ∙ sym (append_assoc (listed_as 0 false (scoped_words r) ++ listed_as 1 false (owned_words r)) (listed_as 2 true (frame_slot_words r)) rest)
 
 module _ (r : RootsView) (index : ℕ) (entry : SlotEntry) (below : index < length r.globals) where
   abbrev old_entry : SlotEntry
@@ -150,8 +150,8 @@ module _ {H S D : Type 0} (layouts : Layouts) (seen : H → HeapView) (sound : H
   pub idle_at : (now : OwnerValue H S D) → before ≡ now → now.seen.idle ≡ true → is_none state ≡ true
   idle_at now is idle = ap (λ (v : OwnerValue H S D). v.seen.idle) is ∙ idle
 
-  pub ready_at : (now : OwnerValue H S D) → InOrder (kind_of layouts seen sound under_way) before state → before ≡ now → now.seen.idle ≡ true → IsReady layouts (sound heap) before.seen
-  ready_at now order is idle = ready_of (kind_of layouts seen sound under_way) before state order (idle_at now is idle)
+  pub ready_at : (now : OwnerValue H S D) → InOrder (heap_kind layouts seen sound under_way) before state → before ≡ now → now.seen.idle ≡ true → IsReady layouts (sound heap) before.seen
+  ready_at now order is idle = ready_of (heap_kind layouts seen sound under_way) before state order (idle_at now is idle)
 
   pub word_at : (now : OwnerValue H S D) → before ≡ now → (word : ℕ) → IsWordOf now.seen.heap word → IsWordOf (seen heap) word
   word_at now is word names = subst (λ (v : OwnerValue H S D). IsWordOf v.seen.heap word) (sym is) names
@@ -159,8 +159,8 @@ module _ {H S D : Type 0} (layouts : Layouts) (seen : H → HeapView) (sound : H
   -- the heap holds the same objects, and a collection may begin from the new roots
   pub changed_order : (heap' : H) (roots' : RootsView) → is_none state ≡ true → IsReady layouts (sound heap) before.seen → sound heap' → SameHeld (seen heap) (seen heap')
       → IsCollectable layouts types.declarations (seen heap') (roots_of roots') (has_host hosts) → list_use roots' ≡ list_use roots
-      → InOrder (kind_of layouts seen sound under_way) (owner_value (seen heap') types hosts roots' last heap' state) state
-  changed_order heap' roots' idle ready is held can listed = in_order (kind_of layouts seen sound under_way) (owner_value (seen heap') types hosts roots' last heap' state) state idle (record {
+      → InOrder (heap_kind layouts seen sound under_way) (owner_value (seen heap') types hosts roots' last heap' state) state
+  changed_order heap' roots' idle ready is held can listed = in_order (heap_kind layouts seen sound under_way) (owner_value (seen heap') types hosts roots' last heap' state) state idle (record {
     sound = is;
     can = can;
     unlisted = ap (λ (u : ListUse). u.listed) listed ∙ ready.unlisted;
@@ -170,8 +170,8 @@ module _ {H S D : Type 0} (layouts : Layouts) (seen : H → HeapView) (sound : H
 
   -- the same where the heap may have got its first pages
   pub first_order : (heap' : H) → is_none state ≡ true → IsReady layouts (sound heap) before.seen → sound heap' → IsCollectable layouts types.declarations (seen heap') (roots_of roots) (has_host hosts) → ((seen heap').attached ≡ false → (seen heap).attached ≡ false)
-      → roots.has_places ≡ true → InOrder (kind_of layouts seen sound under_way) (owner_value (seen heap') types hosts roots last heap' state) state
-  first_order heap' idle ready is can kept places = in_order (kind_of layouts seen sound under_way) (owner_value (seen heap') types hosts roots last heap' state) state idle (record {
+      → roots.has_places ≡ true → InOrder (heap_kind layouts seen sound under_way) (owner_value (seen heap') types hosts roots last heap' state) state
+  first_order heap' idle ready is can kept places = in_order (heap_kind layouts seen sound under_way) (owner_value (seen heap') types hosts roots last heap' state) state idle (record {
     sound = is;
     can = can;
     unlisted = ready.unlisted;
@@ -181,8 +181,8 @@ module _ {H S D : Type 0} (layouts : Layouts) (seen : H → HeapView) (sound : H
 
   -- and where it has its memory as before
   pub made_order : (heap' : H) → is_none state ≡ true → IsReady layouts (sound heap) before.seen → sound heap' → IsCollectable layouts types.declarations (seen heap') (roots_of roots) (has_host hosts) → (seen heap').attached ≡ (seen heap).attached
-      → InOrder (kind_of layouts seen sound under_way) (owner_value (seen heap') types hosts roots last heap' state) state
-  made_order heap' idle ready is can kept = in_order (kind_of layouts seen sound under_way) (owner_value (seen heap') types hosts roots last heap' state) state idle (record {
+      → InOrder (heap_kind layouts seen sound under_way) (owner_value (seen heap') types hosts roots last heap' state) state
+  made_order heap' idle ready is can kept = in_order (heap_kind layouts seen sound under_way) (owner_value (seen heap') types hosts roots last heap' state) state idle (record {
     sound = is;
     can = can;
     unlisted = ready.unlisted;
@@ -207,8 +207,8 @@ module _ {H S D : Type 0} (layouts : Layouts) (seen : H → HeapView) (sound : H
     (heap : H) (types : TypeTable) (hosts : FinMap nat_cmp D) (roots : RootsView) (last : ℕ) (state : Option S) (heap' : H) (hosts' : FinMap nat_cmp D) (roots' : RootsView) (last' : ℕ)
     (col : CollectsRoots layouts types.declarations (seen heap) (seen heap') roots roots' (has_host hosts) (has_host hosts')) where
   pub collected_order : is_none state ≡ true → IsReady layouts (sound heap) (owner_value (seen heap) types hosts roots last heap state).seen → (seen heap).attached ≡ true → sound heap'
-      → InOrder (kind_of layouts seen sound under_way) (owner_value (seen heap') types hosts' roots' last' heap' state) state
-  collected_order idle ready on is = in_order (kind_of layouts seen sound under_way) (owner_value (seen heap') types hosts' roots' last' heap' state) state idle (record {
+      → InOrder (heap_kind layouts seen sound under_way) (owner_value (seen heap') types hosts' roots' last' heap' state) state
+  collected_order idle ready on is = in_order (heap_kind layouts seen sound under_way) (owner_value (seen heap') types hosts' roots' last' heap' state) state idle (record {
     sound = is;
     can = col.can;
     unlisted = ap (λ (r : RootsView). r.listed) col.moves ∙ ready.unlisted;

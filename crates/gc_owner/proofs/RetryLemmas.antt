@@ -22,9 +22,9 @@ use Rattle.gc_owner.specs.declared.pages.PagesFault.TheVariants as pages_fault
 use Rattle.gc_owner.specs.RootColumns.{RootsView, roots_of}
 use Rattle.gc_owner.specs.Limiters.{Limits}
 use Rattle.gc_owner.specs.Owners.{OwnerView, Trims, Collects, CollectsAll, CanBegin, start_of}
-use Rattle.gc_owner.specs.Growing.{OwnerState, state_of, Readies, Grows, GrowsBy, asked, pages_of, heap_after, collects_first, owner_rules}
+use Rattle.gc_owner.specs.Growing.{OwnerState, state_of, Readies, GrowsReadied, GrowsBy, asked, pages_of, heap_after, collects_first, owner_rules}
 use Rattle.gc_owner.specs.Retry.{Retry, Paused}
-use Rattle.gc_owner.specs.Makes.{IsFreeHost, Describes, CanMake, Allocates}
+use Rattle.gc_owner.specs.Makes.{IsFreeHost, Describes, CanMakeDescribed, AllocateAnswers}
 use Rattle.gc_owner.specs.Tries.{Tries, Lacks}
 use Rattle.gc_owner.proofs.Begins.{memory_heap}
 use Rattle.gc_owner.proofs.GrowthLemmas.{grown_kept, grown_fits, asked_holds}
@@ -35,7 +35,7 @@ use Rattle.gc_owner.proofs.GrowthLemmas.{grown_kept, grown_fits, asked_holds}
 pub record CanTry {D : Type 0} (layouts : Layouts) (d : Description) (o : HeapObject) (size : ℕ) (v : OwnerView D) : Type 0 where
   pub heap : IsHeap layouts v.heap
   pub can : CanBegin layouts v
-  pub make : CanMake layouts v d
+  pub make : CanMakeDescribed layouts v d
   pub described : Describes layouts v d o size
 
 free_collected : {D : Type 0} (layouts : Layouts) (id : ℕ) (old new : OwnerView D) → IsHeap layouts old.heap → CanBegin layouts old → CollectsAll layouts old new → IsFreeHost old id → IsFreeHost new id
@@ -68,7 +68,7 @@ described_later layouts (of.Array ty count) o size old new types free (layout, (
 described_later layouts (of.External id) o size old new types free (is, rest) = (free id is, rest)
 
 make_later : {D : Type 0} (layouts : Layouts) (d : Description) (o : HeapObject) (size : ℕ) (old new : OwnerView D) → new.idle ≡ true → new.heap.attached ≡ true → old.roots.spare ≤ new.roots.spare → length new.roots.scoped ≡ length old.roots.scoped
-    → Describes layouts new d o size → CanMake layouts old d → CanMake layouts new d
+    → Describes layouts new d o size → CanMakeDescribed layouts old d → CanMakeDescribed layouts new d
 make_later layouts d o size old new idle attached spare count described can = record {
   idle = idle;
   attached = attached;
@@ -122,7 +122,7 @@ module _ {D : Type 0} (layouts : Layouts) (d : Description) (o : HeapObject) (si
       }
   heap_try false bytes v at heap = at
 
-  pub grown_try : (bytes : ℕ) (s : OwnerState D) (granted : Bool) (e : OwnerState D) → CanTry layouts d o size s.owner → Grows layouts bytes s granted e → CanTry layouts d o size e.owner
+  pub grown_try : (bytes : ℕ) (s : OwnerState D) (granted : Bool) (e : OwnerState D) → CanTry layouts d o size s.owner → GrowsReadied layouts bytes s granted e → CanTry layouts d o size e.owner
   grown_try bytes s granted e at grows =
       let after : e.owner ≡ record grows.ready.owner { heap = heap_after layouts granted bytes grows.ready.owner.heap } = ap (λ (x : OwnerState D). x.owner) grows.after in
       subst (CanTry layouts d o size) (sym after)
@@ -135,7 +135,7 @@ module _ {D : Type 0} (layouts : Layouts) (d : Description) (o : HeapObject) (si
   grows_try bytes s e (Err pages_fault.Memory) at readied = readied_try s e at readied
 
 -- at what is made of a description itself
-pub can_try : {D : Type 0} (layouts : Layouts) (d : Description) (v : OwnerView D) → IsHeap layouts v.heap → CanBegin layouts v → (make : CanMake layouts v d) → CanTry layouts d make.object make.size v
+pub can_try : {D : Type 0} (layouts : Layouts) (d : Description) (v : OwnerView D) → IsHeap layouts v.heap → CanBegin layouts v → (make : CanMakeDescribed layouts v d) → CanTry layouts d make.object make.size v
 can_try layouts d v heap can make = record { heap = heap; can = can; make = make; described = make.described }
 
 -- What a try answers on the way
@@ -152,7 +152,7 @@ ready_heap layouts s ready is_heap (inl collected) = collected.1.0.runs.is_heap
 ready_heap {D} layouts s ready is_heap (inr same) = subst (λ (r : OwnerState D). IsHeap layouts r.owner.heap) (sym same.1) is_heap
 
 -- a growth that was granted makes room
-granted_room : {D : Type 0} (layouts : Layouts) (size : ℕ) (s e : OwnerState D) → IsHeap layouts s.owner.heap → Grows layouts (need_of layouts size) s true e → HasRoom layouts e.owner.heap size
+granted_room : {D : Type 0} (layouts : Layouts) (size : ℕ) (s e : OwnerState D) → IsHeap layouts s.owner.heap → GrowsReadied layouts (need_of layouts size) s true e → HasRoom layouts e.owner.heap size
 granted_room {D} layouts size s e is_heap grows =
     let h : HeapView = grows.ready.owner.heap in
     let more : ℕ = page * asked (pages_of h) (need_of layouts size) in
@@ -161,7 +161,7 @@ granted_room {D} layouts size s e is_heap grows =
 
 module _ {D : Type 0} (layouts : Layouts) (o : HeapObject) (size : ℕ) (s : OwnerState D) where
   -- the first try ended it
-  pub at_once : (e : OwnerView D) (result : Result ℕ AllocateFault) → Ends result → Tries layouts o size s.owner e result → Allocates layouts o size s (state_of e s.limits) result
+  pub at_once : (e : OwnerView D) (result : Result ℕ AllocateFault) → Ends result → Tries layouts o size s.owner e result → AllocateAnswers layouts o size s (state_of e s.limits) result
   at_once e (Ok index) ends tries = record { mid = s; retried = Retry.at_once tries.adds.room; adds = tries; limits = refl }
   at_once e (Err fault.TooLarge) ends tries = (tries.0, ap (λ v. state_of v s.limits) tries.1)
   at_once e (Err (fault.HeapOutOfMemory need)) ends tries = absurd ends
@@ -173,7 +173,7 @@ module _ {D : Type 0} (layouts : Layouts) (o : HeapObject) (size : ℕ) (s : Own
     paused : Paused (owner_rules layouts size) s m
     small : IsTooLarge layouts size → ⊥
 
-  there : (m : OwnerState D) → AtTry m → (e : OwnerView D) (result : Result ℕ AllocateFault) → Ends result → Tries layouts o size m.owner e result → Allocates layouts o size s (state_of e m.limits) result
+  there : (m : OwnerState D) → AtTry m → (e : OwnerView D) (result : Result ℕ AllocateFault) → Ends result → Tries layouts o size m.owner e result → AllocateAnswers layouts o size s (state_of e m.limits) result
   there m at e (Ok index) ends tries = record { mid = m; retried = at.fits tries.adds.room; adds = tries; limits = refl }
   there m at e (Err fault.TooLarge) ends tries = absurd (at.small tries.0)
   there m at e (Err (fault.HeapOutOfMemory need)) ends tries = absurd ends
@@ -181,7 +181,7 @@ module _ {D : Type 0} (layouts : Layouts) (o : HeapObject) (size : ℕ) (s : Own
 
   -- the last one: without room it ends too
   last_there : (m : OwnerState D) → AtTry m → ((HasRoom layouts m.owner.heap size → ⊥) → Retry (owner_rules layouts size) s false m) → (e : OwnerView D) (result : Result ℕ AllocateFault) → Tries layouts o size m.owner e result
-      → Allocates layouts o size s (state_of e m.limits) result
+      → AllocateAnswers layouts o size s (state_of e m.limits) result
   last_there m at last e (Ok index) tries = there m at e (Ok index) tt tries
   last_there m at last e (Err fault.TooLarge) tries = there m at e (Err fault.TooLarge) tt tries
   last_there m at last e (Err (fault.HeapOutOfMemory need)) tries = record {
@@ -196,7 +196,7 @@ module _ {D : Type 0} (layouts : Layouts) (o : HeapObject) (size : ℕ) (s : Own
 
     module _ (rule : collects_first need s.owner.heap.capacity s.owner.last ≡ true) (m : OwnerView D) (collects : Collects layouts s.owner m) where
       -- a collection made room, or the try failed otherwise
-      pub collected_there : (e : OwnerView D) (result : Result ℕ AllocateFault) → Ends result → Tries layouts o size m e result → Allocates layouts o size s (state_of e s.limits) result
+      pub collected_there : (e : OwnerView D) (result : Result ℕ AllocateFault) → Ends result → Tries layouts o size m e result → AllocateAnswers layouts o size s (state_of e s.limits) result
       collected_there e result ends tries = there (state_of m s.limits) (record {
         fits = Retry.after_collection lacks.no_room (rule_is true rule) (collects, refl);
         paused = Paused.in_collection lacks.no_room (rule_is true rule) (collects, refl);
@@ -210,15 +210,15 @@ module _ {D : Type 0} (layouts : Layouts) (o : HeapObject) (size : ℕ) (s : Own
         none_again : HasRoom layouts m'.heap size → ⊥
         none_again = subst (λ (v : OwnerView D). HasRoom layouts v.heap size → ⊥) (sym still.1) still.0.no_room
 
-        last_after_both : (granted : Bool) (e : OwnerState D) → Grows layouts (need_of layouts size) (state_of m' s.limits) granted e → (HasRoom layouts e.owner.heap size → ⊥) → Retry (owner_rules layouts size) s false e
+        last_after_both : (granted : Bool) (e : OwnerState D) → GrowsReadied layouts (need_of layouts size) (state_of m' s.limits) granted e → (HasRoom layouts e.owner.heap size → ⊥) → Retry (owner_rules layouts size) s false e
         last_after_both true e grows none = absurd (none (granted_room layouts size (state_of m' s.limits) e collects_again.runs.is_heap grows))
         last_after_both false e grows none = Retry.after_both lacks.no_room (rule_is true rule) (collects_again, refl) none_again grows (λ is. absurd (cc)) none
 
         -- a growth was granted or refused after the collection
-        pub grown_after_collection : (granted : Bool) (e : OwnerState D) → Grows layouts need' (state_of m' s.limits) granted e → (new : OwnerView D) (result : Result ℕ AllocateFault) → Tries layouts o size e.owner new result
-            → Allocates layouts o size s (state_of new e.limits) result
+        pub grown_after_collection : (granted : Bool) (e : OwnerState D) → GrowsReadied layouts need' (state_of m' s.limits) granted e → (new : OwnerView D) (result : Result ℕ AllocateFault) → Tries layouts o size e.owner new result
+            → AllocateAnswers layouts o size s (state_of new e.limits) result
         grown_after_collection granted e grows new result tries =
-            let grows' = subst (λ n. Grows layouts n (state_of m' s.limits) granted e) still.0.asked grows in
+            let grows' = subst (λ n. GrowsReadied layouts n (state_of m' s.limits) granted e) still.0.asked grows in
             last_there e (record {
               fits = Retry.after_both lacks.no_room (rule_is true rule) (collects_again, refl) none_again grows' (λ is. refl);
               paused = Paused.in_both lacks.no_room (rule_is true rule) (collects_again, refl) none_again (inr (granted, grows'));
@@ -231,9 +231,9 @@ module _ {D : Type 0} (layouts : Layouts) (o : HeapObject) (size : ℕ) (s : Own
 
     module _ (rule : collects_first need s.owner.heap.capacity s.owner.last ≡ false) where
       -- a growth was granted at once
-      pub grown_at_once : (e : OwnerState D) → IsHeap layouts s.owner.heap → Grows layouts need s true e → (new : OwnerView D) (result : Result ℕ AllocateFault) → Tries layouts o size e.owner new result → Allocates layouts o size s (state_of new e.limits) result
+      pub grown_at_once : (e : OwnerState D) → IsHeap layouts s.owner.heap → GrowsReadied layouts need s true e → (new : OwnerView D) (result : Result ℕ AllocateFault) → Tries layouts o size e.owner new result → AllocateAnswers layouts o size s (state_of new e.limits) result
       grown_at_once e is_heap grows new result tries =
-          let grows' = subst (λ n. Grows layouts n s true e) lacks.asked grows in
+          let grows' = subst (λ n. GrowsReadied layouts n s true e) lacks.asked grows in
           last_there e (record {
             fits = Retry.after_growth lacks.no_room (rule_is false rule) grows';
             paused = Paused.in_growth lacks.no_room (rule_is false rule) (inr (true, grows'));
@@ -241,10 +241,10 @@ module _ {D : Type 0} (layouts : Layouts) (o : HeapObject) (size : ℕ) (s : Own
           }) (λ none. absurd (none (granted_room layouts size s e is_heap grows'))) new result tries
 
       -- a growth was refused, and a collection ran
-      pub collected_after_refusal : (m : OwnerState D) (e : OwnerView D) → Grows layouts need s false m → Collects layouts m.owner e → (new : OwnerView D) (result : Result ℕ AllocateFault) → Tries layouts o size e new result
-          → Allocates layouts o size s (state_of new m.limits) result
+      pub collected_after_refusal : (m : OwnerState D) (e : OwnerView D) → GrowsReadied layouts need s false m → Collects layouts m.owner e → (new : OwnerView D) (result : Result ℕ AllocateFault) → Tries layouts o size e new result
+          → AllocateAnswers layouts o size s (state_of new m.limits) result
       collected_after_refusal m e grows collects new result tries =
-          let grows' = subst (λ n. Grows layouts n s false m) lacks.asked grows in
+          let grows' = subst (λ n. GrowsReadied layouts n s false m) lacks.asked grows in
           last_there (state_of e m.limits) (record {
             fits = Retry.after_refusal lacks.no_room (rule_is false rule) grows' (collects, refl);
             paused = Paused.in_refusal lacks.no_room (rule_is false rule) grows' (collects, refl);
@@ -257,13 +257,13 @@ module _ {D : Type 0} (layouts : Layouts) (o : HeapObject) (size : ℕ) (s : Own
 
 -- From a first try that found no room
 
-module _ {D : Type 0} (layouts : Layouts) (d : Description) (old new : OwnerView D) (need : ℕ) (can : CanMake layouts old d)
+module _ {D : Type 0} (layouts : Layouts) (d : Description) (old new : OwnerView D) (need : ℕ) (can : CanMakeDescribed layouts old d)
     (tries : (o : HeapObject) (size : ℕ) → Describes layouts old d o size → Tries layouts o size old new (Err (fault.HeapOutOfMemory need))) where
   pub as_before : new ≡ old
   as_before = (tries can.object can.size can.described).1
 
-  pub can_still : CanMake layouts new d
-  can_still = subst (λ (v : OwnerView D). CanMake layouts v d) (sym as_before) can
+  pub can_still : CanMakeDescribed layouts new d
+  can_still = subst (λ (v : OwnerView D). CanMakeDescribed layouts v d) (sym as_before) can
 
   pub lacks_still : (first : Bool) → collects_first need new.heap.capacity new.last ≡ first → Lacks layouts new d need first
   lacks_still first rule = record {
@@ -272,14 +272,14 @@ module _ {D : Type 0} (layouts : Layouts) (d : Description) (old new : OwnerView
   }
 
   -- it goes on as from there
-  pub goes_on : (o : HeapObject) (size : ℕ) (limits : Limits) (e : OwnerState D) (result : Result ℕ AllocateFault) → Describes layouts old d o size → (Describes layouts new d o size → Allocates layouts o size (state_of new limits) e result)
-      → Allocates layouts o size (state_of old limits) e result
+  pub goes_on : (o : HeapObject) (size : ℕ) (limits : Limits) (e : OwnerState D) (result : Result ℕ AllocateFault) → Describes layouts old d o size → (Describes layouts new d o size → AllocateAnswers layouts o size (state_of new limits) e result)
+      → AllocateAnswers layouts o size (state_of old limits) e result
   goes_on o size limits e result described allocated =
-      subst (λ (v : OwnerView D). Allocates layouts o size (state_of v limits) e result) as_before (allocated (subst (λ (v : OwnerView D). Describes layouts v d o size) (sym as_before) described))
+      subst (λ (v : OwnerView D). AllocateAnswers layouts o size (state_of v limits) e result) as_before (allocated (subst (λ (v : OwnerView D). Describes layouts v d o size) (sym as_before) described))
 
 -- A collection, and then a growth
 
-module _ {D : Type 0} (layouts : Layouts) (d : Description) (old m : OwnerView D) (limits : Limits) (heap : IsHeap layouts old.heap) (can : CanBegin layouts old) (make : CanMake layouts old d)
+module _ {D : Type 0} (layouts : Layouts) (d : Description) (old m : OwnerView D) (limits : Limits) (heap : IsHeap layouts old.heap) (can : CanBegin layouts old) (make : CanMakeDescribed layouts old d)
     (lacks : (need : ℕ) × Lacks layouts old d need true) (collects : Collects layouts old m) where
   abbrev start : OwnerState D
   start = state_of old limits
@@ -287,12 +287,12 @@ module _ {D : Type 0} (layouts : Layouts) (d : Description) (old m : OwnerView D
   try_collected : (o : HeapObject) (size : ℕ) → Describes layouts old d o size → CanTry layouts d o size m
   try_collected o size described = collected_try layouts d o size old m (record { heap = heap; can = can; make = make; described = described }) collects
 
-  pub make_collected : CanMake layouts m d
+  pub make_collected : CanMakeDescribed layouts m d
   make_collected = (try_collected make.object make.size make.described).make
 
   -- the try behind the collection ended it
   pub collected_ends : (e : OwnerView D) (result : Result ℕ AllocateFault) → Ends result → ((o : HeapObject) (size : ℕ) → Describes layouts m d o size → Tries layouts o size m e result) → (o : HeapObject) (size : ℕ) → Describes layouts old d o size
-      → Allocates layouts o size start (state_of e limits) result
+      → AllocateAnswers layouts o size start (state_of e limits) result
   collected_ends e result ends tries o size described =
       collected_there layouts o size start lacks.0 (lacks.1.lacks o size described) lacks.1.rule m collects e result ends (tries o size (try_collected o size described).described)
 
@@ -302,15 +302,15 @@ module _ {D : Type 0} (layouts : Layouts) (d : Description) (old m : OwnerView D
         let at = try_collected o size described in
         subst (CanTry layouts d o size) (sym (still o size at.described).1) at
 
-    pub make_still : CanMake layouts m' d
+    pub make_still : CanMakeDescribed layouts m' d
     make_still = (try_still make.object make.size make.described).make
 
-    pub make_grown : (e : OwnerState D) (result : Result (Unit {0}) PagesFault) → GrowsBy layouts need (state_of m' limits) e result → CanMake layouts e.owner d
+    pub make_grown : (e : OwnerState D) (result : Result (Unit {0}) PagesFault) → GrowsBy layouts need (state_of m' limits) e result → CanMakeDescribed layouts e.owner d
     make_grown e result grows = (grows_try layouts d make.object make.size need (state_of m' limits) e result (try_still make.object make.size make.described) grows).make
 
     -- it was the last try that ended it
-    pub both_end : (granted : Bool) (e : OwnerState D) → Grows layouts need (state_of m' limits) granted e → (new : OwnerView D) (result : Result ℕ AllocateFault)
-        → ((o : HeapObject) (size : ℕ) → Describes layouts e.owner d o size → Tries layouts o size e.owner new result) → (o : HeapObject) (size : ℕ) → Describes layouts old d o size → Allocates layouts o size start (state_of new e.limits) result
+    pub both_end : (granted : Bool) (e : OwnerState D) → GrowsReadied layouts need (state_of m' limits) granted e → (new : OwnerView D) (result : Result ℕ AllocateFault)
+        → ((o : HeapObject) (size : ℕ) → Describes layouts e.owner d o size → Tries layouts o size e.owner new result) → (o : HeapObject) (size : ℕ) → Describes layouts old d o size → AllocateAnswers layouts o size start (state_of new e.limits) result
     both_end granted e grows new result tries o size described =
         let now = grown_try layouts d o size need (state_of m' limits) granted e (try_still o size described) grows in
         grown_after_collection layouts o size start lacks.0 (lacks.1.lacks o size described) lacks.1.rule m collects m' need (still o size (try_collected o size described).described) granted e grows new result (tries o size now.described)
@@ -322,30 +322,30 @@ module _ {D : Type 0} (layouts : Layouts) (d : Description) (old m : OwnerView D
 
 -- A growth, and a collection where it was refused
 
-module _ {D : Type 0} (layouts : Layouts) (d : Description) (old : OwnerView D) (limits : Limits) (heap : IsHeap layouts old.heap) (can : CanBegin layouts old) (make : CanMake layouts old d) (need : ℕ) (lacks : Lacks layouts old d need false) where
+module _ {D : Type 0} (layouts : Layouts) (d : Description) (old : OwnerView D) (limits : Limits) (heap : IsHeap layouts old.heap) (can : CanBegin layouts old) (make : CanMakeDescribed layouts old d) (need : ℕ) (lacks : Lacks layouts old d need false) where
   try_old : (o : HeapObject) (size : ℕ) → Describes layouts old d o size → CanTry layouts d o size old
   try_old o size described = record { heap = heap; can = can; make = make; described = described }
 
-  pub make_after : (e : OwnerState D) (result : Result (Unit {0}) PagesFault) → GrowsBy layouts need (state_of old limits) e result → CanMake layouts e.owner d
+  pub make_after : (e : OwnerState D) (result : Result (Unit {0}) PagesFault) → GrowsBy layouts need (state_of old limits) e result → CanMakeDescribed layouts e.owner d
   make_after e result grows = (grows_try layouts d make.object make.size need (state_of old limits) e result (try_old make.object make.size make.described) grows).make
 
   -- it was granted
-  pub growth_ends : (e : OwnerState D) → Grows layouts need (state_of old limits) true e → (new : OwnerView D) (result : Result ℕ AllocateFault)
-      → ((o : HeapObject) (size : ℕ) → Describes layouts e.owner d o size → Tries layouts o size e.owner new result) → (o : HeapObject) (size : ℕ) → Describes layouts old d o size → Allocates layouts o size (state_of old limits) (state_of new e.limits) result
+  pub growth_ends : (e : OwnerState D) → GrowsReadied layouts need (state_of old limits) true e → (new : OwnerView D) (result : Result ℕ AllocateFault)
+      → ((o : HeapObject) (size : ℕ) → Describes layouts e.owner d o size → Tries layouts o size e.owner new result) → (o : HeapObject) (size : ℕ) → Describes layouts old d o size → AllocateAnswers layouts o size (state_of old limits) (state_of new e.limits) result
   growth_ends e grows new result tries o size described =
       let now = grown_try layouts d o size need (state_of old limits) true e (try_old o size described) grows in
       grown_at_once layouts o size (state_of old limits) need (lacks.lacks o size described) lacks.rule e heap grows new result (tries o size now.described)
 
-  module _ (m : OwnerState D) (grows : Grows layouts need (state_of old limits) false m) (e : OwnerView D) (collects : Collects layouts m.owner e) where
+  module _ (m : OwnerState D) (grows : GrowsReadied layouts need (state_of old limits) false m) (e : OwnerView D) (collects : Collects layouts m.owner e) where
     try_refused : (o : HeapObject) (size : ℕ) → Describes layouts old d o size → CanTry layouts d o size e
     try_refused o size described = collected_try layouts d o size m.owner e (grown_try layouts d o size need (state_of old limits) false m (try_old o size described) grows) collects
 
-    pub make_refused : CanMake layouts e d
+    pub make_refused : CanMakeDescribed layouts e d
     make_refused = (try_refused make.object make.size make.described).make
 
     -- it was refused
     pub refusal_ends : (new : OwnerView D) (result : Result ℕ AllocateFault) → ((o : HeapObject) (size : ℕ) → Describes layouts e d o size → Tries layouts o size e new result) → (o : HeapObject) (size : ℕ) → Describes layouts old d o size
-        → Allocates layouts o size (state_of old limits) (state_of new m.limits) result
+        → AllocateAnswers layouts o size (state_of old limits) (state_of new m.limits) result
     refusal_ends new result tries o size described =
         collected_after_refusal layouts o size (state_of old limits) need (lacks.lacks o size described) lacks.rule m e grows collects new result (tries o size (try_refused o size described).described)
 

@@ -9,7 +9,7 @@ use Rattle.gc_view.specs.Heaps.{HeapView, SameHeld}
 use Rattle.gc_heap.specs.Content.{IsHeap}
 use Rattle.gc_heap.specs.Barriers.{CanUnname, dropped}
 use Rattle.gc_owner.specs.declared.entry.RootEntry.{RootEntry}
-use Rattle.gc_owner.specs.RootColumns.{RootsView, scoped_words, owned_words, slot_words, global_words, listed_as, roots_of, generation_after, left_scope}
+use Rattle.gc_owner.specs.RootColumns.{RootsView, scoped_words, owned_words, frame_slot_words, global_words, listed_as, roots_of, generation_after, left_scope}
 use Rattle.gc_owner.specs.Owners.{lowered, CanDropWord}
 use Rattle.gc_owner.specs.DroppedRoots.{PopsOne}
 use Rattle.gc_owner.specs.Tracing.{IsCollectable}
@@ -39,7 +39,7 @@ pub same_held : (h : HeapView) → SameHeld h h
 same_held h = record { content = refl; attached = refl; capacity = refl; allocated = refl; needs_gc = refl }
 
 abbrev behind_scoped : RootsView → List Root
-behind_scoped r = listed_as 1 false (owned_words r) ++ (listed_as 2 true (slot_words r) ++ (listed_as 3 false (global_words r) ++ listed_as 4 false (r.pending ∷ [])))
+behind_scoped r = listed_as 1 false (owned_words r) ++ (listed_as 2 true (frame_slot_words r) ++ (listed_as 3 false (global_words r) ++ listed_as 4 false (r.pending ∷ [])))
 
 module _ (layouts : Layouts) (types : List Declaration) (h : HeapView) (hosts : ℕ → Bool) (mark : ℕ) (old new : RootsView) (word : ℕ) (pops : PopsOne mark old new word) where
   words_popped : scoped_words old ≡ scoped_words new ++ word ∷ []

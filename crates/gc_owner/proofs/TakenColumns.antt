@@ -4,7 +4,7 @@ use Rattle.std.proofs.lemmas.Bool.{cases_eq, ne_eqb, eq-eqb}
 use Rattle.std.proofs.lemmas.List.{take_more, drop_more, take_all, map-append, append_assoc, append-nil, length-map, length-take, length-drop, get_or_at, get_or-drop, set_at, drop-drop}
 use Rattle.gc_roots.specs.Roots.{Root, root, root_at, no_root}
 use Rattle.gc_heap.specs.Collection.{moved, moved_root}
-use Rattle.gc_owner.specs.RootColumns.{listed_as, Follow}
+use Rattle.gc_owner.specs.RootColumns.{listed_as, ColumnFollows}
 use Rattle.gc_owner.proofs.ListedRoots.{listed_present, listed_null, listed-append}
 
 -- one more word is listed
@@ -26,7 +26,7 @@ module _ {T : Type 0} (word_of : T → ℕ) (put_word : T → ℕ → T) (to : �
   -- how far the entries have come, and where their words go on in the list
   pub record Taken (now : List T) (index at : ℕ) : Type 0 where
     pub entries : now ≡ map moved_entry (take index first) ++ drop index first
-    pub rest : Follow at roots to place b (map word_of (drop index first)) behind
+    pub rest : ColumnFollows at roots to place b (map word_of (drop index first)) behind
 
   pub all_taken : (now : List T) (index at : ℕ) → length first ≤ index → Taken now index at → (now ≡ map moved_entry first) × (drop at roots ≡ behind)
   all_taken now index at enough taken =
@@ -82,7 +82,7 @@ module _ {T : Type 0} (word_of : T → ℕ) (put_word : T → ℕ → T) (to : �
       | inr other ↦ let ne : (word ≡ 0 → ⊥) = other in new_is ∙ ap (λ t. cond t 0 (root_at roots at).word) (ne_eqb word 0 ne) ∙ word_at (omega arith)
     ]
 
-    next_rest : (word at' : ℕ) → word ≡ word_of entry → (word ≡ 0 → at' ≡ at) → (0 < word → at < length roots → at' ≡ at + 1) → Follow at' roots to place b (map word_of (drop (index + 1) first)) behind
+    next_rest : (word at' : ℕ) → word ≡ word_of entry → (word ≡ 0 → at' ≡ at) → (0 < word → at < length roots → at' ≡ at + 1) → ColumnFollows at' roots to place b (map word_of (drop (index + 1) first)) behind
     next_rest word at' is stays goes = elim (cases_eq word 0) [
       | inl null ↦
           ap (λ n. drop n roots) (stays null) ∙ follow ∙ ap (λ rs. map (moved_root to) rs ++ behind) (listed_null place b (word_of entry) (map word_of (drop (index + 1) first)) (sym is ∙ null))

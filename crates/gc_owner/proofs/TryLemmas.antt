@@ -9,18 +9,18 @@ use Rattle.gc_view.specs.Heaps.{HeapObject, HeapView}
 use Rattle.gc_heap.specs.Content.{IsHeap}
 use Rattle.gc_heap.specs.Heap.{Allocated}
 use Rattle.gc_heap.specs.Collection.{Stage, Start, has_host}
-use Rattle.gc_heap.specs.declared.heap.HeapFault.{HeapFault}
-use Rattle.gc_heap.specs.declared.heap.HeapFault.TheVariants as heap_fault
+use Rattle.gc_heap.specs.declared.fault.HeapFault.{HeapFault}
+use Rattle.gc_heap.specs.declared.fault.HeapFault.TheVariants as heap_fault
 use Rattle.gc_owner.specs.declared.allocate.AllocateFault.{AllocateFault}
 use Rattle.gc_owner.specs.declared.allocate.Description.{Description}
 use Rattle.gc_owner.specs.RootColumns.{RootsView, roots_of}
 use Rattle.gc_owner.proofs.ListUse.{ListUse, list_use}
 use Rattle.gc_owner.specs.Owners.{OwnerView, OwnerValue, IsReady, InOrder, owner_value}
 use Rattle.gc_owner.specs.Tracing.{IsCollectable}
-use Rattle.gc_owner.specs.Makes.{CanMake, Describes}
+use Rattle.gc_owner.specs.Makes.{CanMakeDescribed, Describes}
 use Rattle.gc_owner.specs.Tries.{GetsRoot, Tries}
 use Rattle.gc_owner.proofs.MakeLemmas.{IsMakeable, makeable, made_scoped}
-use Rattle.gc_owner.proofs.OwnerLemmas.{kind_of, in_order}
+use Rattle.gc_owner.proofs.OwnerLemmas.{heap_kind, in_order}
 
 -- What a try leaves: a collection may begin, no list is in use that wasn't, and the heap has its memory.
 record Leaves (layouts : Layouts) (types : List Declaration) (new : HeapView) (r r' : RootsView) (hosts : ℕ → Bool) : Type 0 where
@@ -67,15 +67,15 @@ module _ {H S D : Type 0} (layouts : Layouts) (seen : H → HeapView) (sound : H
   abbrev after : OwnerValue H S D
   after = owner_value (seen heap') types hosts roots' last heap' state
 
-  pub can_at : (d : Description) → CanMake layouts now.seen d → CanMake layouts before.seen d
-  can_at d can = subst (λ (v : OwnerValue H S D). CanMake layouts v.seen d) (sym is) can
+  pub can_at : (d : Description) → CanMakeDescribed layouts now.seen d → CanMakeDescribed layouts before.seen d
+  can_at d can = subst (λ (v : OwnerValue H S D). CanMakeDescribed layouts v.seen d) (sym is) can
 
   -- the owner is ready again
   pub tried_order : (d : Description) (o : HeapObject) (size : ℕ) (answer : Result (Result ℕ ℕ) HeapFault) (result : Result ℕ AllocateFault) → is_none state ≡ true → IsReady layouts (sound heap) before.seen → IsHeap layouts (seen heap) → sound heap'
-      → CanMake layouts before.seen d → Describes layouts before.seen d o size → Allocated layouts (seen heap) (seen heap') o size answer → GetsRoot answer roots roots' result → InOrder (kind_of layouts seen sound under_way) after state
+      → CanMakeDescribed layouts before.seen d → Describes layouts before.seen d o size → Allocated layouts (seen heap) (seen heap') o size answer → GetsRoot answer roots roots' result → InOrder (heap_kind layouts seen sound under_way) after state
   tried_order d o size answer result idle ready heap_is is' can described allocated rooted =
       let left = leaves layouts types.declarations (seen heap) (seen heap') roots roots' (has_host hosts) o size heap_is can.attached (makeable layouts before.seen d o size described) ready.can answer result allocated rooted in
-      in_order (kind_of layouts seen sound under_way) after state idle (record {
+      in_order (heap_kind layouts seen sound under_way) after state idle (record {
         sound = is';
         can = left.can;
         unlisted = ap (λ (u : ListUse). u.listed) left.listed ∙ ready.unlisted;

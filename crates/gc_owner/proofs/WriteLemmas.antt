@@ -29,7 +29,7 @@ use Rattle.gc_owner.specs.Writes.{IsNumberPlace, IsReferencePlace, WritesBytes, 
 use Rattle.gc_owner.specs.Tracing.{IsCollectable}
 use Rattle.gc_owner.proofs.Begins.{with_memory, memory_heap, traced_put}
 use Rattle.gc_heap.proofs.NameLemmas.{counted_is, is_named}
-use Rattle.gc_owner.proofs.OwnerLemmas.{kind_of, ready_at, idle_at, word_at, made_order}
+use Rattle.gc_owner.proofs.OwnerLemmas.{heap_kind, ready_at, idle_at, word_at, made_order}
 use Rattle.gc_owner.proofs.FollowedOffsets.{followed_offsets, reference_holder}
 
 -- a word as a slot that may hold none
@@ -150,7 +150,7 @@ module _ (layouts : Layouts) (types : List Declaration) (h : HeapView) (roots : 
 -- The same of an owner by its parts
 module _ {H S D : Type 0} (layouts : Layouts) (seen : H → HeapView) (sound : H → Type 0) (under_way : Start → ℕ → Bool → Stage H S → Type 0)
     (heap : H) (types : TypeTable) (hosts : FinMap nat_cmp D) (roots : RootsView) (last : ℕ) (state : Option S) (is_heap : (h : H) → sound h → IsHeap layouts (seen h))
-    (now : OwnerValue H S D) (order : InOrder (kind_of layouts seen sound under_way) (owner_value (seen heap) types hosts roots last heap state) state)
+    (now : OwnerValue H S D) (order : InOrder (heap_kind layouts seen sound under_way) (owner_value (seen heap) types hosts roots last heap state) state)
     (is : owner_value (seen heap) types hosts roots last heap state ≡ now) (idle : now.seen.idle ≡ true) where
   ready : IsReady layouts (sound heap) (owner_value (seen heap) types hosts roots last heap state).seen
   ready = ready_at layouts seen sound under_way heap types hosts roots last state now order is idle
@@ -166,7 +166,7 @@ module _ {H S D : Type 0} (layouts : Layouts) (seen : H → HeapView) (sound : H
   number_writable place offset count p = record { object = p.object; held = held_at place p.object p.held; from = p.from; to = p.to }
 
   pub number_order : (heap' : H) (place offset : ℕ) (bytes : List ℕ) → IsNumberPlace layouts now.seen place offset (length bytes) → sound heap' → WritesData layouts (seen heap) (seen heap') place offset bytes
-      → InOrder (kind_of layouts seen sound under_way) (owner_value (seen heap') types hosts roots last heap' state) state
+      → InOrder (heap_kind layouts seen sound under_way) (owner_value (seen heap') types hosts roots last heap' state) state
   number_order heap' place offset bytes p is_sound written =
       let held : get (seen heap).content place ≡ Some p.object = held_at place p.object p.held in
       let after : seen heap' ≡ put_object (seen heap) place (with_data layouts p.object offset bytes) = written p.object held in
@@ -204,7 +204,7 @@ module _ {H S D : Type 0} (layouts : Layouts) (seen : H → HeapView) (sound : H
         (reference_writable layouts types.declarations (seen heap) (roots_of roots) (has_host hosts) place p.object (is_heap heap ready.sound) ready.can place_held offset typed_at old_word new_word)
 
     pub reference_order : (h : HeapView) (heap' : H) (old_word word : ℕ) → old_word ≡ word_in layouts p.object offset → h ≡ lowered (raised (seen heap) word) old_word → word < 2 ^ 32 → IsWordOf now.seen.heap word → sound heap'
-        → WritesData layouts h (seen heap') place offset (to_le_bytes w32 word) → InOrder (kind_of layouts seen sound under_way) (owner_value (seen heap') types hosts roots last heap' state) state
+        → WritesData layouts h (seen heap') place offset (to_le_bytes w32 word) → InOrder (heap_kind layouts seen sound under_way) (owner_value (seen heap') types hosts roots last heap' state) state
     reference_order h heap' old_word word was e small names is_sound written =
         let o' : HeapObject = with_data layouts p.object offset (to_le_bytes w32 word) in
         let held : get h.content place ≡ Some p.object = ap (λ (v : HeapView). get v.content place) e ∙ ap (λ m. get m place) (replaced_content (seen heap) old_word word) ∙ place_held in

@@ -101,7 +101,7 @@ abbrev pub Readies : {D : Type 0} → Layouts → OwnerState D → OwnerState D 
 Readies layouts s e = ((s.owner.heap.needs_gc ≡ true) × CollectsState layouts s e) ⊎ ((s.owner.heap.needs_gc ≡ false) × (e ≡ s))
 
 -- a growth by so many bytes was granted or refused, once the heap was ready
-pub record Grows {D : Type 0} (layouts : Layouts) (bytes : ℕ) (s : OwnerState D) (granted : Bool) (e : OwnerState D) : Type 0 where
+pub record GrowsReadied {D : Type 0} (layouts : Layouts) (bytes : ℕ) (s : OwnerState D) (granted : Bool) (e : OwnerState D) : Type 0 where
   pub ready : OwnerState D
   pub readied : Readies layouts s ready
   pub asks : AsksPages (pages_of ready.owner.heap) bytes ready.limits granted e.limits
@@ -110,12 +110,12 @@ pub record Grows {D : Type 0} (layouts : Layouts) (bytes : ℕ) (s : OwnerState 
 
 -- what the growth of a heap that is made answers and leaves
 abbrev pub GrowsBy : {D : Type 0} → Layouts → ℕ → OwnerState D → OwnerState D → Result (Unit {0}) PagesFault → Type 0
-GrowsBy layouts bytes s e (Ok done) = Grows layouts bytes s true e
-GrowsBy layouts bytes s e (Err pages_fault.Refused) = Grows layouts bytes s false e
+GrowsBy layouts bytes s e (Ok done) = GrowsReadied layouts bytes s true e
+GrowsBy layouts bytes s e (Err pages_fault.Refused) = GrowsReadied layouts bytes s false e
 GrowsBy layouts bytes s e (Err pages_fault.Memory) = Readies layouts s e
 
 -- the heap was made where it wasn't
-pub record Begins {D : Type 0} (layouts : Layouts) (first : ℕ) (s e : OwnerState D) : Type 0 where
+pub record BeginsHeap {D : Type 0} (layouts : Layouts) (first : ℕ) (s e : OwnerState D) : Type 0 where
   pub makes : MakesHeap layouts first s.owner.heap e.owner.heap s.limits e.limits (Ok tt)
   pub rest : e.owner ≡ record s.owner { heap = e.owner.heap }
 
@@ -126,10 +126,10 @@ pub record NotBegun {D : Type 0} (first : ℕ) (s e : OwnerState D) : Type 0 whe
 
 -- what making a heap and letting it grow answers and leaves
 abbrev pub Expands : {D : Type 0} → Layouts → ℕ → ℕ → OwnerState D → OwnerState D → Result (Unit {0}) PagesFault → Type 0
-Expands {D} layouts first bytes s e (Ok done) = (b : OwnerState D) × (Begins layouts first s b × Grows layouts bytes b true e)
+Expands {D} layouts first bytes s e (Ok done) = (b : OwnerState D) × (BeginsHeap layouts first s b × GrowsReadied layouts bytes b true e)
 Expands {D} layouts first bytes s e (Err pages_fault.Refused) =
-    NotBegun first s e ⊎ ((b : OwnerState D) × (Begins layouts first s b × Grows layouts bytes b false e))
-Expands {D} layouts first bytes s e (Err pages_fault.Memory) = (e ≡ s) ⊎ ((b : OwnerState D) × (Begins layouts first s b × Readies layouts b e))
+    NotBegun first s e ⊎ ((b : OwnerState D) × (BeginsHeap layouts first s b × GrowsReadied layouts bytes b false e))
+Expands {D} layouts first bytes s e (Err pages_fault.Memory) = (e ≡ s) ⊎ ((b : OwnerState D) × (BeginsHeap layouts first s b × Readies layouts b e))
 
 -- by what an allocation of so many bytes goes
 abbrev pub owner_rules : {D : Type 0} → Layouts → ℕ → Rules (OwnerState D)
@@ -139,5 +139,5 @@ owner_rules layouts size = record {
   collects_first = λ s. collects_first (need_of layouts size) s.owner.heap.capacity s.owner.last;
   Collects = CollectsState layouts;
   Readies = Readies layouts;
-  Grows = Grows layouts (need_of layouts size);
+  Grows = GrowsReadied layouts (need_of layouts size);
 }

@@ -7,10 +7,10 @@ use Rattle.gc_owner.specs.HostValues.{with_host}
 use Rattle.gc_owner.specs.contracts.owner.HeapOwner.{the_row}
 
 -- the owner with another host value under that id
-abbrev pub with_host_value : {H S D : Type 0} → ℕ → OwnerValue H S D → D → OwnerValue H S D
-with_host_value id o value = record o { seen = with_host id value o.seen }
+abbrev pub owner_with_host : {H S D : Type 0} → ℕ → OwnerValue H S D → D → OwnerValue H S D
+owner_with_host id o value = record o { seen = with_host id value o.seen }
 
 module _ (H D S : RattleType) (g : heap.Ghosts H.Denot S.Denot) (o : MutBor (OwnerValue H.Denot S.Denot D.Denot)) (id : ℕ) where
   -- once the borrow r ends, the id has the last value written through r; at `None` the owner stays as it is
-  abbrev pub lends_host : Option (MutBor D.Denot) → Fml
-  lends_host r = LendsIf (the_row H D S g) D o r (with_host_value id o.now) o.now
+  abbrev pub owner_lends_host : Option (MutBor D.Denot) → Fml
+  owner_lends_host r = LendsIf (the_row H D S g) D o r (owner_with_host id o.now) o.now

@@ -34,9 +34,9 @@ pub record TakesBack {D : Type 0} (value : D) (s e : OwnerState D) (Ended : Owne
   pub gone : get e.owner.hosts id ≡ None
 
 -- what making an external object answers and leaves
-abbrev pub PlacesHost : {D : Type 0} → Layouts → D → OwnerState D → OwnerState D → Result ℕ (HostFault D) → Type 0
-PlacesHost layouts value s e (Ok index) = PlacesValue layouts value s e index
-PlacesHost layouts value s e (Err (host.Full back)) = (back ≡ value) × ((map.len s.owner.hosts ≡ max_entries) × (e ≡ s))
-PlacesHost layouts value s e (Err (host.HeapOutOfMemory back need)) =
+abbrev pub PlacesExternal : {D : Type 0} → Layouts → D → OwnerState D → OwnerState D → Result ℕ (HostFault D) → Type 0
+PlacesExternal layouts value s e (Ok index) = PlacesValue layouts value s e index
+PlacesExternal layouts value s e (Err (host.Full back)) = (back ≡ value) × ((map.len s.owner.hosts ≡ max_entries) × (e ≡ s))
+PlacesExternal layouts value s e (Err (host.HeapOutOfMemory back need)) =
     (back ≡ value) × TakesBack value s e (λ a b. LacksSpace layouts (external_size layouts) a b need)
-PlacesHost layouts value s e (Err (host.Memory back)) = (back ≡ value) × ((e ≡ s) ⊎ TakesBack value s e (Paused (owner_rules layouts (external_size layouts))))
+PlacesExternal layouts value s e (Err (host.Memory back)) = (back ≡ value) × ((e ≡ s) ⊎ TakesBack value s e (Paused (owner_rules layouts (external_size layouts))))

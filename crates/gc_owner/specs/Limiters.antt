@@ -39,6 +39,6 @@ next_answer [] = true
 next_answer (answer ∷ answers) = answer
 
 -- the answers behind the next one
-abbrev pub rest_of : List Bool → List Bool
-rest_of [] = []
-rest_of (answer ∷ answers) = answers
+abbrev pub later_answers : List Bool → List Bool
+later_answers [] = []
+later_answers (answer ∷ answers) = answers

@@ -36,7 +36,7 @@ Describes layouts v (of.External id) o size = IsFreeHost v id × ((o ≡ externa
 
 -- An object may be made by a description: the heap has its memory, no collection is under way, and there is room
 -- for its root.
-pub record CanMake {D : Type 0} (layouts : Layouts) (v : OwnerView D) (d : Description) : Type 0 where
+pub record CanMakeDescribed {D : Type 0} (layouts : Layouts) (v : OwnerView D) (d : Description) : Type 0 where
   pub idle : v.idle ≡ true
   pub attached : v.heap.attached ≡ true
   pub spare : 0 < v.roots.spare
@@ -46,7 +46,7 @@ pub record CanMake {D : Type 0} (layouts : Layouts) (v : OwnerView D) (d : Descr
   pub described : Describes layouts v d object size
 
 -- an object was added, and has a scoped root of its own, which is the last one
-pub record AddsRooted {D : Type 0} (layouts : Layouts) (old new : OwnerView D) (o : HeapObject) (size index : ℕ) : Type 0 where
+pub record AddsScoped {D : Type 0} (layouts : Layouts) (old new : OwnerView D) (o : HeapObject) (size index : ℕ) : Type 0 where
   pub word : ℕ
   pub adds : AddsObject layouts old.heap new.heap word o size
   pub rest : new ≡ record old { heap = new.heap; roots = with_scoped word old.roots }
@@ -56,7 +56,7 @@ pub record AddsRooted {D : Type 0} (layouts : Layouts) (old new : OwnerView D) (
 pub record AllocatesRooted {D : Type 0} (layouts : Layouts) (o : HeapObject) (size : ℕ) (s e : OwnerState D) (index : ℕ) : Type 0 where
   pub mid : OwnerState D
   pub retried : Retry (owner_rules layouts size) s true mid
-  pub adds : AddsRooted layouts mid.owner e.owner o size index
+  pub adds : AddsScoped layouts mid.owner e.owner o size index
   pub limits : e.limits ≡ mid.limits
 
 -- By the rule of retry there is no room, which the answer says how many bytes it would take.
@@ -65,8 +65,8 @@ pub record LacksSpace {D : Type 0} (layouts : Layouts) (size : ℕ) (s e : Owner
   pub asked : need ≡ need_of layouts size
 
 -- what allocating an object of so many bytes answers and leaves
-abbrev pub Allocates : {D : Type 0} → Layouts → HeapObject → ℕ → OwnerState D → OwnerState D → Result ℕ AllocateFault → Type 0
-Allocates layouts o size s e (Ok index) = AllocatesRooted layouts o size s e index
-Allocates layouts o size s e (Err fault.TooLarge) = IsTooLarge layouts size × (e ≡ s)
-Allocates layouts o size s e (Err (fault.HeapOutOfMemory need)) = LacksSpace layouts size s e need
-Allocates layouts o size s e (Err fault.Memory) = Paused (owner_rules layouts size) s e
+abbrev pub AllocateAnswers : {D : Type 0} → Layouts → HeapObject → ℕ → OwnerState D → OwnerState D → Result ℕ AllocateFault → Type 0
+AllocateAnswers layouts o size s e (Ok index) = AllocatesRooted layouts o size s e index
+AllocateAnswers layouts o size s e (Err fault.TooLarge) = IsTooLarge layouts size × (e ≡ s)
+AllocateAnswers layouts o size s e (Err (fault.HeapOutOfMemory need)) = LacksSpace layouts size s e need
+AllocateAnswers layouts o size s e (Err fault.Memory) = Paused (owner_rules layouts size) s e

@@ -79,12 +79,12 @@ pub record Kind (H S : Type 0) : Type 1 where
   pub sound : H → Type 0
   pub under_way : Start → ℕ → Bool → Stage H S → Type 0
 
-abbrev pub kind_of : {H S : Type 0} → Layouts → (H → HeapView) → (H → Type 0) → (Start → ℕ → Bool → Stage H S → Type 0) → Kind H S
-kind_of layouts seen sound under_way = record { layouts = layouts; seen = seen; sound = sound; under_way = under_way }
+abbrev pub heap_kind : {H S : Type 0} → Layouts → (H → HeapView) → (H → Type 0) → (Start → ℕ → Bool → Stage H S → Type 0) → Kind H S
+heap_kind layouts seen sound under_way = record { layouts = layouts; seen = seen; sound = sound; under_way = under_way }
 
 -- A collection is under way that began there: so many increments were done, each of them counted or not. The
 -- roots have the words that they had where it began, and the list has them as far as they have moved.
-pub record Goes {H S D : Type 0} (k : Kind H S) (s : Start) (n : ℕ) (c : Bool) (v : OwnerValue H S D) (state : S) : Type 0 where
+pub record CollectionGoes {H S D : Type 0} (k : Kind H S) (s : Start) (n : ℕ) (c : Bool) (v : OwnerValue H S D) (state : S) : Type 0 where
   pub listed : List Root
   pub listed_is : v.seen.roots.listed ≡ Some listed
   pub given : v.seen.roots.given ≡ length s.roots
@@ -100,7 +100,7 @@ pub record Goes {H S D : Type 0} (k : Kind H S) (s : Start) (n : ℕ) (c : Bool)
 -- an owner is ready, or a collection is under way
 abbrev pub InOrder : {H S D : Type 0} → Kind H S → OwnerValue H S D → Option S → Type 0
 InOrder k v None = IsReady k.layouts (k.sound v.heap) v.seen
-InOrder k v (Some state) = (s : Start) × ((n : ℕ) × ((c : Bool) × Goes k s n c v state))
+InOrder k v (Some state) = (s : Start) × ((n : ℕ) × ((c : Bool) × CollectionGoes k s n c v state))
 
 -- the heap after a word was copied; null is no name
 abbrev pub raised : HeapView → ℕ → HeapView
@@ -159,14 +159,14 @@ ClosesFrame old new = (0 < length old.roots.frames) × (new ≡ record old { roo
 pub record IsGoing {H S D : Type 0} (k : Kind H S) (s : Start) (n : ℕ) (c : Bool) (begun now : OwnerValue H S D) : Type 0 where
   pub state : S
   pub state_is : now.state ≡ Some state
-  pub goes : Goes k s n c now state
+  pub goes : CollectionGoes k s n c now state
   pub start : s ≡ start_of begun.seen
   pub values : IsPartOf now.seen.hosts begun.seen.hosts
   pub rest : begun.seen
       ≡ record now.seen { heap = begun.seen.heap; hosts = begun.seen.hosts; idle = true; roots = without_list now.seen.roots }
 
 -- A collection that began at an owner is under way, from the roots that a trim had left, after so many increments.
-pub record IsUnderWay {H S D : Type 0} (k : Kind H S) (s : Start) (n : ℕ) (c : Bool) (begun now : OwnerValue H S D) : Type 0 where
+pub record IsOwnerUnderWay {H S D : Type 0} (k : Kind H S) (s : Start) (n : ℕ) (c : Bool) (begun now : OwnerValue H S D) : Type 0 where
   pub trimmed : OwnerValue H S D
   pub trims : Trims k.layouts begun.seen trimmed.seen
   pub going : IsGoing k s n c trimmed now
@@ -178,7 +178,7 @@ IsEnded layouts begun now = Collects layouts begun.seen now.seen
 -- what an increment answers and leaves, where c is whether it and all before it were counted
 abbrev pub IncrementsCounted : {H S D : Type 0} → Kind H S → Start → ℕ → Bool → OwnerValue H S D → OwnerValue H S D → GcProgress → Type 0
 IncrementsCounted k s done c begun now progress.Complete = IsIncrements k.layouts s done × IsEnded k.layouts begun now
-IncrementsCounted k s done c begun now progress.Continue = ((n : ℕ) → IsIncrements k.layouts s n → done < n) × IsUnderWay k s done c begun now
+IncrementsCounted k s done c begun now progress.Continue = ((n : ℕ) → IsIncrements k.layouts s n → done < n) × IsOwnerUnderWay k s done c begun now
 
 -- what an increment that isn't counted answers and leaves
 abbrev pub Increments : {H S D : Type 0} → Kind H S → Start → ℕ → OwnerValue H S D → OwnerValue H S D → GcProgress → Type 0

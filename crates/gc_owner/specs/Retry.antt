@@ -12,9 +12,9 @@ pub record Rules (S : Type 0) : Type 1 where
   pub Grows : S → Bool → S → Type 0
 
 -- whether the last try found room
-abbrev pub Ends : {S : Type 0} → Rules S → Bool → S → Type 0
-Ends rules true s = rules.Fits s
-Ends rules false s = rules.Lacks s
+abbrev pub HasFoundRoom : {S : Type 0} → Rules S → Bool → S → Type 0
+HasFoundRoom rules true s = rules.Fits s
+HasFoundRoom rules false s = rules.Lacks s
 
 -- An allocation tries. Without room it either collects and tries again, and then grows, where a refusal is
 -- overlooked; or it grows, and only where that was refused it collects. Then it tries a last time. A growth that
@@ -23,10 +23,10 @@ pub data Retry {S : Type 0} (rules : Rules S) (s : S) : Bool → S → Type 0 wh
   at_once : rules.Fits s → Retry rules s true s
   after_collection : {m : S} → rules.Lacks s → rules.collects_first s ≡ true → rules.Collects s m → rules.Fits m → Retry rules s true m
   after_both : {m e : S} {granted ok : Bool} → rules.Lacks s → rules.collects_first s ≡ true → rules.Collects s m → rules.Lacks m
-      → rules.Grows m granted e → (granted ≡ true → ok ≡ true) → Ends rules ok e → Retry rules s ok e
+      → rules.Grows m granted e → (granted ≡ true → ok ≡ true) → HasFoundRoom rules ok e → Retry rules s ok e
   after_growth : {e : S} → rules.Lacks s → rules.collects_first s ≡ false → rules.Grows s true e → rules.Fits e → Retry rules s true e
   after_refusal : {m e : S} {ok : Bool} → rules.Lacks s → rules.collects_first s ≡ false → rules.Grows s false m → rules.Collects m e
-      → Ends rules ok e → Retry rules s ok e
+      → HasFoundRoom rules ok e → Retry rules s ok e
 
 -- a growth was begun: it is ready, or it was granted or refused
 abbrev pub Growing : {S : Type 0} → Rules S → S → S → Type 0

@@ -70,26 +70,26 @@ scoped_words r = map (λ (e : RootEntry). e.word) r.scoped
 abbrev pub owned_words : RootsView → List ℕ
 owned_words r = map (λ (e : OwnedEntry). e.word) r.owned
 
-abbrev pub slot_words : RootsView → List ℕ
-slot_words r = map (λ (e : SlotEntry). e.word) r.slots
+abbrev pub frame_slot_words : RootsView → List ℕ
+frame_slot_words r = map (λ (e : SlotEntry). e.word) r.slots
 
 abbrev pub global_words : RootsView → List ℕ
 global_words r = map (λ (e : SlotEntry). e.word) r.globals
 
 -- the words that aren't null
-abbrev pub present : List ℕ → List ℕ
-present words = filter (λ w. not (w == 0)) words
+abbrev pub non_null_words : List ℕ → List ℕ
+non_null_words words = filter (λ w. not (w == 0)) words
 
 -- words as roots of one kind, which are frame slots or none; nulls are no roots
 abbrev pub listed_as : ℕ → Bool → List ℕ → List Root
-listed_as place on_stack words = map (λ w. root place on_stack w) (present words)
+listed_as place on_stack words = map (λ w. root place on_stack w) (non_null_words words)
 
 -- the roots as a collection sees them
 abbrev pub roots_of : RootsView → List Root
 roots_of r =
     listed_as 0 false (scoped_words r)
     ++ (listed_as 1 false (owned_words r)
-    ++ (listed_as 2 true (slot_words r)
+    ++ (listed_as 2 true (frame_slot_words r)
     ++ (listed_as 3 false (global_words r)
     ++ listed_as 4 false (r.pending ∷ []))))
 
@@ -116,13 +116,13 @@ abbrev pub newest_start : RootsView → ℕ
 newest_start r = slice_index_or r.frames (length r.frames - 1) 0
 
 -- from a place on a list has words of one kind that moved, and then others
-abbrev pub Follow : ℕ → List Root → (ℕ → ℕ) → ℕ → Bool → List ℕ → List Root → Type 0
-Follow from roots to place on_stack words behind = drop from roots ≡ map (moved_root to) (listed_as place on_stack words) ++ behind
+abbrev pub ColumnFollows : ℕ → List Root → (ℕ → ℕ) → ℕ → Bool → List ℕ → List Root → Type 0
+ColumnFollows from roots to place on_stack words behind = drop from roots ≡ map (moved_root to) (listed_as place on_stack words) ++ behind
 
 -- from a place on a list has these words of some kind, which moved somehow
 abbrev pub HaveMoved : ℕ → List Root → List ℕ → Type 0
 HaveMoved from roots words =
-    (to : ℕ → ℕ) × ((place : ℕ) × ((on_stack : Bool) × ((behind : List Root) × Follow from roots to place on_stack words behind)))
+    (to : ℕ → ℕ) × ((place : ℕ) × ((on_stack : Bool) × ((behind : List Root) × ColumnFollows from roots to place on_stack words behind)))
 
 -- starts of frames from a place on, each at or behind the one before it, and none behind the end of the slots
 abbrev pub RiseFrom : ℕ → List ℕ → ℕ → Type 0

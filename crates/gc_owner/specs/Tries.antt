@@ -9,8 +9,8 @@ use Rattle.gc_view.specs.Sizes.{IsTooLarge, external_size}
 use Rattle.gc_view.specs.Heaps.{HeapObject}
 use Rattle.gc_heap.specs.Objects.{external}
 use Rattle.gc_heap.specs.Heap.{LacksRoom, new_struct, new_array, array_size}
-use Rattle.gc_heap.specs.declared.heap.HeapFault.{HeapFault}
-use Rattle.gc_heap.specs.declared.heap.HeapFault.TheVariants as heap_fault
+use Rattle.gc_heap.specs.declared.fault.HeapFault.{HeapFault}
+use Rattle.gc_heap.specs.declared.fault.HeapFault.TheVariants as heap_fault
 use Rattle.gc_owner.specs.declared.allocate.Description.{Description}
 use Rattle.gc_owner.specs.declared.allocate.Description.TheVariants as of
 use Rattle.gc_owner.specs.declared.allocate.AllocateFault.{AllocateFault}
@@ -18,15 +18,15 @@ use Rattle.gc_owner.specs.declared.allocate.AllocateFault.TheVariants as fault
 use Rattle.gc_owner.specs.RootColumns.{RootsView, with_scoped}
 use Rattle.gc_owner.specs.Owners.{OwnerView}
 use Rattle.gc_owner.specs.Growing.{collects_first}
-use Rattle.gc_owner.specs.Makes.{Describes, AddsRooted}
+use Rattle.gc_owner.specs.Makes.{Describes, AddsScoped}
 
 -- a description tells that object, of so many bytes, where its type is declared
-abbrev pub Tells : Layouts → List Declaration → Description → HeapObject → ℕ → Type 0
-Tells layouts types (of.Object ty) o size =
+abbrev pub DescribesDeclared : Layouts → List Declaration → Description → HeapObject → ℕ → Type 0
+DescribesDeclared layouts types (of.Object ty) o size =
     (layout : GcStructLayout) × ((layout_at layouts types ty ≡ Some layout) × ((o ≡ new_struct layouts ty layout) × (size ≡ layout.size)))
-Tells layouts types (of.Array ty count) o size =
+DescribesDeclared layouts types (of.Array ty count) o size =
     (layout : GcArrayLayout) × ((array_layout_at layouts types ty ≡ Some layout) × ((o ≡ new_array layouts ty count layout) × (size ≡ array_size layout count)))
-Tells layouts types (of.External id) o size = (o ≡ external id) × (size ≡ external_size layouts)
+DescribesDeclared layouts types (of.External id) o size = (o ≡ external id) × (size ≡ external_size layouts)
 
 -- the answer of an allocation in the heap becomes that of the owner's: the object has a new scoped root, which
 -- is the last one, or there is none
@@ -38,7 +38,7 @@ GetsRoot (Err heap_fault.Memory) old new result = (new ≡ old) × (result ≡ E
 
 -- what one try to allocate an object of so many bytes answers and leaves
 abbrev pub Tries : {D : Type 0} → Layouts → HeapObject → ℕ → OwnerView D → OwnerView D → Result ℕ AllocateFault → Type 0
-Tries layouts o size old new (Ok index) = AddsRooted layouts old new o size index
+Tries layouts o size old new (Ok index) = AddsScoped layouts old new o size index
 Tries layouts o size old new (Err fault.TooLarge) = IsTooLarge layouts size × (new ≡ old)
 Tries layouts o size old new (Err (fault.HeapOutOfMemory need)) = LacksRoom layouts old.heap new.heap need size × (new ≡ old)
 Tries layouts o size old new (Err fault.Memory) = new ≡ old

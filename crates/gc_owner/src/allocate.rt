@@ -4,8 +4,8 @@ ghost use Rattle.std.specs.Prelude.{◌≡◌, ◌<◌, ◌^◌, ℕ, true, fals
 ghost use Rattle.gc_view.specs.Heaps.{HeapObject};
 ghost use Rattle.gc_heap.specs.Heap.{Allocated};
 ghost use Rattle.gc_owner.specs.Growing.{state_of};
-ghost use Rattle.gc_owner.specs.Makes.{CanMake, Describes, Allocates};
-ghost use Rattle.gc_owner.specs.Tries.{Tells, GetsRoot, Tries, Lacks};
+ghost use Rattle.gc_owner.specs.Makes.{CanMakeDescribed, Describes, AllocateAnswers};
+ghost use Rattle.gc_owner.specs.Tries.{DescribesDeclared, GetsRoot, Tries, Lacks};
 
 use crate::grow::should_collect_first;
 use crate::limiter::ResourceLimiter;
@@ -52,9 +52,9 @@ fn new_object<H: GcHeap>(
 ) -> Result<Result<VMGcRef, u64>, HeapFault>
     requires sound { H.sound heap.old }
     requires attached { (H.seen heap.old).attached ≡ true }
-    requires told { (o : HeapObject) × ((size : ℕ) × Tells H.KIND types.now.declarations description.now o size) }
+    requires told { (o : HeapObject) × ((size : ℕ) × DescribesDeclared H.KIND types.now.declarations description.now o size) }
     ensures sound { H.sound heap.new }
-    ensures allocated { (o : HeapObject) (size : ℕ) → Tells H.KIND types.now.declarations description.now o size
+    ensures allocated { (o : HeapObject) (size : ℕ) → DescribesDeclared H.KIND types.now.declarations description.now o size
         → Allocated H.KIND (H.seen heap.old) (H.seen heap.new) o size result }
 {
     match *description {
@@ -92,7 +92,7 @@ impl<H: GcHeap, D: Drop> HeapOwner<H, D> {
     /// Tries once to make an object with its root. `HeapOutOfMemory` says what it takes.
     #[inline(always)]
     fn try_once(&mut self, description: &Description) -> Result<u32, AllocateFault>
-        requires can { CanMake H.KIND self.old.seen description.now }
+        requires can { CanMakeDescribed H.KIND self.old.seen description.now }
         ensures tried { (o : HeapObject) (size : ℕ) → Describes H.KIND self.old.seen description.now o size
             → Tries H.KIND o size self.old.seen self.new.seen result }
     {
@@ -107,10 +107,10 @@ impl<H: GcHeap, D: Drop> HeapOwner<H, D> {
         limiter: &mut L,
         description: &Description,
     ) -> Result<u32, AllocateFault>
-        requires can { CanMake H.KIND self.old.seen description.now }
+        requires can { CanMakeDescribed H.KIND self.old.seen description.now }
         requires lacks { (need : ℕ) × Lacks H.KIND self.old.seen description.now need true }
         ensures allocated { (o : HeapObject) (size : ℕ) → Describes H.KIND self.old.seen description.now o size
-            → Allocates H.KIND o size (state_of self.old.seen (L.limits limiter.old)) (state_of self.new.seen (L.limits limiter.new)) result }
+            → AllocateAnswers H.KIND o size (state_of self.old.seen (L.limits limiter.old)) (state_of self.new.seen (L.limits limiter.new)) result }
     {
         self.is_ready();
         self.collect();
@@ -134,10 +134,10 @@ impl<H: GcHeap, D: Drop> HeapOwner<H, D> {
         description: &Description,
         need: u64,
     ) -> Result<u32, AllocateFault>
-        requires can { CanMake H.KIND self.old.seen description.now }
+        requires can { CanMakeDescribed H.KIND self.old.seen description.now }
         requires lacks { Lacks H.KIND self.old.seen description.now need false }
         ensures allocated { (o : HeapObject) (size : ℕ) → Describes H.KIND self.old.seen description.now o size
-            → Allocates H.KIND o size (state_of self.old.seen (L.limits limiter.old)) (state_of self.new.seen (L.limits limiter.new)) result }
+            → AllocateAnswers H.KIND o size (state_of self.old.seen (L.limits limiter.old)) (state_of self.new.seen (L.limits limiter.new)) result }
     {
         self.is_ready();
         match self.grow_by(limiter, need) {
@@ -161,9 +161,9 @@ impl<H: GcHeap, D: Drop> HeapOwner<H, D> {
         limiter: &mut L,
         description: Description,
     ) -> Result<u32, AllocateFault>
-        requires can { CanMake H.KIND self.old.seen description }
+        requires can { CanMakeDescribed H.KIND self.old.seen description }
         ensures allocated { (o : HeapObject) (size : ℕ) → Describes H.KIND self.old.seen description o size
-            → Allocates H.KIND o size (state_of self.old.seen (L.limits limiter.old)) (state_of self.new.seen (L.limits limiter.new)) result }
+            → AllocateAnswers H.KIND o size (state_of self.old.seen (L.limits limiter.old)) (state_of self.new.seen (L.limits limiter.new)) result }
     {
         match self.try_once(&description) {
             Ok(index) => Ok(index),

@@ -3,7 +3,7 @@
 ghost use Rattle.std.specs.Prelude.{ℕ, ◌≡◌, ◌⊎◌, ◌+◌, ◌<◌, ◌≤◌, ◌==◌, ◌++◌, ◌∷◌, [], if◌then◌else◌, Bool, List, drop, length, map};
 ghost use Rattle.gc_roots.specs.Roots.{Root, root, root_at};
 ghost use Rattle.gc_heap.specs.Collection.{moved};
-ghost use Rattle.gc_owner.specs.RootColumns.{listed_as, Follow, HaveMoved};
+ghost use Rattle.gc_owner.specs.RootColumns.{listed_as, ColumnFollows, HaveMoved};
 
 use crate::entry::HoldsWord;
 use gc_refs::VMGcRef;
@@ -84,10 +84,10 @@ fn place_behind(list: &GcRootsList, at: usize, word: u32) -> usize
 pub(crate) fn take_column<T: HoldsWord>(entries: &mut [T], list: &GcRootsList, from: usize) -> usize
     requires { HaveMoved from list.now.roots (map T.word_of entries.old) }
     ensures words { (to : ℕ → ℕ) (place : ℕ) (on_stack : Bool) (behind : List Root)
-        → Follow from list.now.roots to place on_stack (map T.word_of entries.old) behind
+        → ColumnFollows from list.now.roots to place on_stack (map T.word_of entries.old) behind
         → entries.new ≡ map (λ (e : T). T.put_word e (moved to (T.word_of e))) entries.old }
     ensures next { (to : ℕ → ℕ) (place : ℕ) (on_stack : Bool) (behind : List Root)
-        → Follow from list.now.roots to place on_stack (map T.word_of entries.old) behind
+        → ColumnFollows from list.now.roots to place on_stack (map T.word_of entries.old) behind
         → drop result list.now.roots ≡ behind }
 {
     let mut at = from;

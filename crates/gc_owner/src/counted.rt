@@ -5,7 +5,7 @@ ghost use Rattle.gc_roots.specs.Roots.{Root};
 ghost use Rattle.gc_heap.specs.Collection.{Start, stage, IsPartOf, IsStepCount};
 ghost use Rattle.gc_owner.specs.Counting.{CountsSteps, ticks_of};
 ghost use Rattle.gc_owner.specs.Going.{IsListed, StepsRoots, left_of};
-ghost use Rattle.gc_owner.specs.Owners.{OwnerValue, IncrementsCounted, IsEnded, IsUnderWay, kind_of};
+ghost use Rattle.gc_owner.specs.Owners.{OwnerValue, IncrementsCounted, IsEnded, IsOwnerUnderWay, heap_kind};
 
 use crate::increments::settle;
 use crate::owner::HeapOwner;
@@ -51,10 +51,10 @@ impl<H: GcHeap, D: Drop> HeapOwner<H, D> {
     /// none. With no collection under way it counts none. It takes no memory.
     pub fn increment_counted<G: Ledger>(&mut self, steps: &mut Steps<G>) -> GcProgress
         ensures goes { (s : Start) (n : ℕ) (c : Bool) (begun : OwnerValue H H.State D)
-            → IsUnderWay (kind_of H.KIND H.seen H.sound H.under_way) s n c begun self.old
-            → IncrementsCounted (kind_of H.KIND H.seen H.sound H.under_way) s (n + 1) c begun self.new result }
+            → IsOwnerUnderWay (heap_kind H.KIND H.seen H.sound H.under_way) s n c begun self.old
+            → IncrementsCounted (heap_kind H.KIND H.seen H.sound H.under_way) s (n + 1) c begun self.new result }
         ensures counted { (s : Start) (n : ℕ) (begun : OwnerValue H H.State D)
-            → IsUnderWay (kind_of H.KIND H.seen H.sound H.under_way) s n true begun self.old
+            → IsOwnerUnderWay (heap_kind H.KIND H.seen H.sound H.under_way) s n true begun self.old
             → result ≡ GcProgress.Complete → CountsSteps H.KIND s (ticks_of H.ticks self.old.state) steps.old steps.new }
         ensures ticks { result ≡ GcProgress.Continue
             → ticks_of H.ticks self.new.state + steps.old ≡ ticks_of H.ticks self.old.state + steps.new }
@@ -86,10 +86,10 @@ impl<H: GcHeap, D: Drop> HeapOwner<H, D> {
         ensures idle { self.new.seen.idle ≡ true }
         ensures same { self.old.seen.idle ≡ true → (self.new ≡ self.old) × (steps.new ≡ steps.old) }
         ensures ended { (s : Start) (n : ℕ) (c : Bool) (begun : OwnerValue H H.State D)
-            → IsUnderWay (kind_of H.KIND H.seen H.sound H.under_way) s n c begun self.old
+            → IsOwnerUnderWay (heap_kind H.KIND H.seen H.sound H.under_way) s n c begun self.old
             → IsEnded H.KIND begun self.new }
         ensures counted { (s : Start) (n : ℕ) (begun : OwnerValue H H.State D)
-            → IsUnderWay (kind_of H.KIND H.seen H.sound H.under_way) s n true begun self.old
+            → IsOwnerUnderWay (heap_kind H.KIND H.seen H.sound H.under_way) s n true begun self.old
             → CountsSteps H.KIND s (ticks_of H.ticks self.old.state) steps.old steps.new }
         ensures rises { steps.old ≤ steps.new }
     {

@@ -2,7 +2,7 @@
 
 ghost use Rattle.std.specs.Prelude.{◌≡◌, true};
 ghost use Rattle.gc_types.specs.Declarations.{struct_type, array_type, exn_type, func_type};
-ghost use Rattle.gc_owner.specs.Declares.{Declares};
+ghost use Rattle.gc_owner.specs.Declares.{AppendsType};
 
 use crate::owner::HeapOwner;
 use gc_heap::GcHeap;
@@ -19,7 +19,7 @@ impl<H: GcHeap, D: Drop> HeapOwner<H, D> {
         is_final: bool,
     ) -> Result<StructType, TypeFault>
         requires idle { self.old.seen.idle ≡ true }
-        ensures { Declares self.old.seen self.new.seen (struct_type fields.now supertype is_final) result }
+        ensures { AppendsType self.old.seen self.new.seen (struct_type fields.now supertype is_final) result }
     {
         self.types.declare_struct(fields, supertype, is_final)
     }
@@ -32,7 +32,7 @@ impl<H: GcHeap, D: Drop> HeapOwner<H, D> {
         is_final: bool,
     ) -> Result<ArrayType, TypeFault>
         requires idle { self.old.seen.idle ≡ true }
-        ensures { Declares self.old.seen self.new.seen (array_type elem supertype is_final) result }
+        ensures { AppendsType self.old.seen self.new.seen (array_type elem supertype is_final) result }
     {
         self.types.declare_array(elem, supertype, is_final)
     }
@@ -40,7 +40,7 @@ impl<H: GcHeap, D: Drop> HeapOwner<H, D> {
     /// Declares an exception type, as `Types::declare_exn` does.
     pub fn declare_exn(&mut self, params: &[ValType]) -> Result<ExnType, TypeFault>
         requires idle { self.old.seen.idle ≡ true }
-        ensures { Declares self.old.seen self.new.seen (exn_type params.now) result }
+        ensures { AppendsType self.old.seen self.new.seen (exn_type params.now) result }
     {
         self.types.declare_exn(params)
     }
@@ -54,7 +54,7 @@ impl<H: GcHeap, D: Drop> HeapOwner<H, D> {
         is_final: bool,
     ) -> Result<FuncType, TypeFault>
         requires idle { self.old.seen.idle ≡ true }
-        ensures { Declares self.old.seen self.new.seen (func_type params.now results.now supertype is_final) result }
+        ensures { AppendsType self.old.seen self.new.seen (func_type params.now results.now supertype is_final) result }
     {
         self.types
             .declare_func(params, results, supertype, is_final)

@@ -6,7 +6,7 @@ ghost use Rattle.std.specs.Borrow.{sem};
 ghost use Rattle.std.specs.FinMap as map;
 ghost use Rattle.gc_owner.specs.Growing.{state_of};
 ghost use Rattle.gc_owner.specs.Makes.{IsFreeHost};
-ghost use Rattle.gc_owner.specs.HostValues.{PlacesHost};
+ghost use Rattle.gc_owner.specs.HostValues.{PlacesExternal};
 ghost use Rattle.gc_owner.specs.HostSteps.{PutsIn, PutsValue};
 
 use crate::allocate::{AllocateFault, Description};
@@ -43,7 +43,7 @@ fn put_in<D: Drop>(
 }
 
 impl<H: GcHeap, D: Drop> HeapOwner<H, D> {
-    ghost use Rattle.gc_owner.specs.HostLends.{lends_host};
+    ghost use Rattle.gc_owner.specs.HostLends.{owner_lends_host};
 
     /// The host value under that id; None exactly where the id names none.
     pub fn host(&self, id: ExternRefHostDataId) -> Option<&D>
@@ -56,7 +56,7 @@ impl<H: GcHeap, D: Drop> HeapOwner<H, D> {
     /// The host value under that id, for writing; None exactly where the id names none.
     pub fn host_mut(&mut self, id: ExternRefHostDataId) -> Option<&mut D>
         requires idle { self.old.seen.idle ≡ true }
-        ensures* writes_back { sem 𝓛 (lends_host H.row D.row H.State.row H.GcHeap self.entry id result) }
+        ensures* writes_back { sem 𝓛 (owner_lends_host H.row D.row H.State.row H.GcHeap self.entry id result) }
         ensures value { option_copied_mut result ≡ map.get self.old.seen.hosts id }
     {
         match self.hosts.get_mut(id) {
@@ -97,7 +97,7 @@ impl<H: GcHeap, D: Drop> HeapOwner<H, D> {
         requires attached { self.old.seen.heap.attached ≡ true }
         requires room { 0 < self.old.seen.roots.spare }
         requires few { length self.old.seen.roots.scoped < 2 ^ 32 }
-        ensures { PlacesHost H.KIND value (state_of self.old.seen (L.limits limiter.old)) (state_of self.new.seen (L.limits limiter.new)) result }
+        ensures { PlacesExternal H.KIND value (state_of self.old.seen (L.limits limiter.old)) (state_of self.new.seen (L.limits limiter.new)) result }
     {
         let id = match self.put_value(value) {
             Ok(id) => id,

@@ -5,7 +5,7 @@ ghost use Rattle.gc_roots.specs.Roots.{Root};
 ghost use Rattle.gc_heap.specs.Collection.{Start, stage, IsPartOf};
 ghost use Rattle.gc_owner.specs.Counting.{ticks_of};
 ghost use Rattle.gc_owner.specs.Going.{HasMovedList, IsListed, Settles, StepsRoots, left_of};
-ghost use Rattle.gc_owner.specs.Owners.{OwnerValue, Increments, IsEnded, IsGoing, IsUnderWay, kind_of, start_of};
+ghost use Rattle.gc_owner.specs.Owners.{OwnerValue, Increments, IsEnded, IsGoing, IsOwnerUnderWay, heap_kind, start_of};
 
 use crate::owner::HeapOwner;
 use crate::roots::Roots;
@@ -72,7 +72,7 @@ impl<H: GcHeap, D: Drop> HeapOwner<H, D> {
     pub fn begin_all(&mut self)
         requires idle { self.old.seen.idle ≡ true }
         requires attached { self.old.seen.heap.attached ≡ true }
-        ensures going { IsGoing (kind_of H.KIND H.seen H.sound H.under_way) (start_of self.old.seen) 0 true self.old self.new }
+        ensures going { IsGoing (heap_kind H.KIND H.seen H.sound H.under_way) (start_of self.old.seen) 0 true self.old self.new }
         ensures ticks { ticks_of H.ticks self.new.state ≡ 0 }
     {
         let state = self.heap.begin();
@@ -85,7 +85,7 @@ impl<H: GcHeap, D: Drop> HeapOwner<H, D> {
     pub fn begin(&mut self)
         requires idle { self.old.seen.idle ≡ true }
         requires attached { self.old.seen.heap.attached ≡ true }
-        ensures { (s : Start) × IsUnderWay (kind_of H.KIND H.seen H.sound H.under_way) s 0 true self.old self.new }
+        ensures { (s : Start) × IsOwnerUnderWay (heap_kind H.KIND H.seen H.sound H.under_way) s 0 true self.old self.new }
     {
         self.trim();
         self.begin_all();
@@ -95,8 +95,8 @@ impl<H: GcHeap, D: Drop> HeapOwner<H, D> {
     /// under way it does nothing. It takes no memory.
     pub fn increment(&mut self) -> GcProgress
         ensures goes { (s : Start) (n : ℕ) (c : Bool) (begun : OwnerValue H H.State D)
-            → IsUnderWay (kind_of H.KIND H.seen H.sound H.under_way) s n c begun self.old
-            → Increments (kind_of H.KIND H.seen H.sound H.under_way) s (n + 1) begun self.new result }
+            → IsOwnerUnderWay (heap_kind H.KIND H.seen H.sound H.under_way) s n c begun self.old
+            → Increments (heap_kind H.KIND H.seen H.sound H.under_way) s (n + 1) begun self.new result }
         ensures none { self.old.seen.idle ≡ true → (result ≡ GcProgress.Complete) × (self.new ≡ self.old) }
         ensures complete { result ≡ GcProgress.Complete → self.new.seen.idle ≡ true }
         ensures less { result ≡ GcProgress.Continue → left_of H.left self.new.heap self.new.state < left_of H.left self.old.heap self.old.state }
@@ -123,7 +123,7 @@ impl<H: GcHeap, D: Drop> HeapOwner<H, D> {
         ensures idle { self.new.seen.idle ≡ true }
         ensures same { self.old.seen.idle ≡ true → self.new ≡ self.old }
         ensures ended { (s : Start) (n : ℕ) (c : Bool) (begun : OwnerValue H H.State D)
-            → IsUnderWay (kind_of H.KIND H.seen H.sound H.under_way) s n c begun self.old
+            → IsOwnerUnderWay (heap_kind H.KIND H.seen H.sound H.under_way) s n c begun self.old
             → IsEnded H.KIND begun self.new }
     {
         'increments: loop {

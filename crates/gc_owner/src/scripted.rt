@@ -1,7 +1,7 @@
 //! A limiter that answers by a list, for tests.
 
 ghost use Rattle.std.specs.Prelude.{◌≡◌, None};
-ghost use Rattle.gc_owner.specs.Limiters.{fresh_limits, next_answer, rest_of};
+ghost use Rattle.gc_owner.specs.Limiters.{fresh_limits, next_answer, later_answers};
 
 use crate::limiter::ResourceLimiter;
 use std::marker::Model;
@@ -58,7 +58,7 @@ impl Scripted {
     /// The next answer; true after the last.
     fn next_answer(&mut self) -> bool
         ensures answer { result ≡ next_answer self.old.answers }
-        ensures rest { self.new ≡ record self.old { answers = rest_of self.old.answers } }
+        ensures rest { self.new ≡ record self.old { answers = later_answers self.old.answers } }
     {
         match self.answers.get(self.given) {
             Some(answer) => {
@@ -74,7 +74,7 @@ impl Scripted {
 impl ResourceLimiter for Scripted {
     ghost use Rattle.std.specs.Prelude.{◌≡◌, ◌↔◌, ◌≤◌, IsTrue, IfSome};
     ghost use Rattle.std.specs.Bool.{OnTrue, OnFalse};
-    ghost use Rattle.gc_owner.specs.Limiters.{Refuses, next_answer, rest_of};
+    ghost use Rattle.gc_owner.specs.Limiters.{Refuses, next_answer, later_answers};
 
     ghost limits = { λ s. s.limits };
 
@@ -83,7 +83,7 @@ impl ResourceLimiter for Scripted {
         ensures refused { OnFalse result (Refuses self.old.limits self.new.limits from to) }
         ensures by_limit { IfSome self.old.limits.limit (λ most. IsTrue result ↔ (to ≤ most)) }
         ensures answer { result ≡ next_answer self.old.answers }
-        ensures rest { self.new.answers ≡ rest_of self.old.answers }
+        ensures rest { self.new.answers ≡ later_answers self.old.answers }
     {
         let granted = self.next_answer();
         if !granted {

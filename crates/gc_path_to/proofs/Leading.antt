@@ -11,7 +11,7 @@ use Rattle.gc_store.specs.declared.root_words.RootName.{RootName}
 use Rattle.gc_paths.specs.declared.entry.PathEntry.{PathEntry}
 use Rattle.gc_paths.specs.declared.entry.PathParent.{PathParent}
 use Rattle.gc_paths.specs.declared.entry.PathParent.TheVariants as parent
-use Rattle.gc_paths.specs.Reports.{Told, ComesFrom, IsEntry, IsReport, entries}
+use Rattle.gc_paths.specs.Reports.{Told, ComesFrom, IsEntry, IsReport, told_entries}
 use Rattle.gc_paths.specs.Walks.{ValueNames, IsWalked, IsLeast}
 use Rattle.gc_paths.specs.Progress.{Basis}
 use Rattle.gc_path_to.specs.Targets.{IsPath, PathOf, at_root, at_entry, behind_parent, AreEarlier}
@@ -81,7 +81,7 @@ path_begun es last path n e name there is goes =
 
 -- The entries of a report
 
-told_at : (told : List Told) (n : ℕ) (e : PathEntry) → slice_get (entries told) n ≡ Some e → (x : Told) × ((slice_get told n ≡ Some x) × (x.entry ≡ e))
+told_at : (told : List Told) (n : ℕ) (e : PathEntry) → slice_get (told_entries told) n ≡ Some e → (x : Told) × ((slice_get told n ≡ Some x) × (x.entry ≡ e))
 told_at told n e there =
     elim ((slice_get_cases told n).1) [
       | inl found ↦ (found.0, (found.2, same_Some found.0.entry e (sym (ap (option_map (λ (x : Told). x.entry)) found.2) ∙ sym (slice_get-map (λ (x : Told). x.entry) told n) ∙ there)))
@@ -97,7 +97,7 @@ module _ {D : Type 0} (b : Basis D) (told : List Told) (report : IsReport b.scop
   from_parent : (n : ℕ) (x : Told) → slice_get told n ≡ Some x → (from : PathParent) → x.entry.parent ≡ from → ComesFrom b.scoped b.table told n x.position x.entry.length from
   from_parent n x there from is = subst (λ (f : PathParent). ComesFrom b.scoped b.table told n x.position x.entry.length f) is (report.each n x there).from
 
-  pub are_earlier : AreEarlier (entries told)
+  pub are_earlier : AreEarlier (told_entries told)
   are_earlier n e number index there is =
       let x = told_at told n e there in
       let comes = from_parent n x.0 x.1.0 (parent.FromEntry number index) (ap (λ (y : PathEntry). y.parent) x.1.1 ∙ is) in
@@ -108,13 +108,13 @@ module _ {D : Type 0} (b : Basis D) (told : List Told) (report : IsReport b.scop
   -- the path to an entry that is told
   pub record Leading (n : ℕ) (path : List PathEntry) : Type 0 where
     pub walk : List Told
-    pub path_is : path ≡ entries walk
+    pub path_is : path ≡ told_entries walk
     pub last : Told
     pub there : slice_get told n ≡ Some last
     pub is_path : IsPath b.scoped b.table b.place walk last.position
     pub same_length : is_path.target.entry.length ≡ last.entry.length
 
-  begins : (n : ℕ) (e : PathEntry) (name : RootName) → slice_get (entries told) n ≡ Some e → e.parent ≡ parent.FromRoot name → Leading n (e ∷ [])
+  begins : (n : ℕ) (e : PathEntry) (name : RootName) → slice_get (told_entries told) n ≡ Some e → e.parent ≡ parent.FromRoot name → Leading n (e ∷ [])
   begins n e name there is =
       let x = told_at told n e there in
       let root = ap (λ (y : PathEntry). y.parent) x.1.1 ∙ is in
@@ -142,7 +142,7 @@ module _ {D : Type 0} (b : Basis D) (told : List Told) (report : IsReport b.scop
         same_length = refl;
       }
 
-  goes_on : (n number : ℕ) (path : List PathEntry) (e : PathEntry) (index : ℕ) → slice_get (entries told) n ≡ Some e → e.parent ≡ parent.FromEntry number index → Leading number path → Leading n (path ++ behind_parent e.word e.length index ∷ [])
+  goes_on : (n number : ℕ) (path : List PathEntry) (e : PathEntry) (index : ℕ) → slice_get (told_entries told) n ≡ Some e → e.parent ≡ parent.FromEntry number index → Leading number path → Leading n (path ++ behind_parent e.word e.length index ∷ [])
   goes_on n number path e index there is before =
       let x = told_at told n e there in
       let comes = from_parent n x.0 x.1.0 (parent.FromEntry number index) (ap (λ (y : PathEntry). y.parent) x.1.1 ∙ is) in
@@ -166,7 +166,7 @@ module _ {D : Type 0} (b : Basis D) (told : List Told) (report : IsReport b.scop
       record {
         walk = before.walk ++ z ∷ [];
         path_is = ap (λ (xs : List PathEntry). xs ++ behind_parent e.word e.length index ∷ []) before.path_is
-            ∙ ap (λ (y : PathEntry). entries before.walk ++ behind_parent y.word y.length index ∷ []) (sym x.1.1) ∙ sym (map_push (λ (y : Told). y.entry) before.walk z);
+            ∙ ap (λ (y : PathEntry). told_entries before.walk ++ behind_parent y.word y.length index ∷ []) (sym x.1.1) ∙ sym (map_push (λ (y : Told). y.entry) before.walk z);
         last = x.0;
         there = x.1.0;
         is_path = record {
@@ -190,16 +190,16 @@ module _ {D : Type 0} (b : Basis D) (told : List Told) (report : IsReport b.scop
         same_length = refl;
       }
 
-  leading : {n : ℕ} {path : List PathEntry} → PathOf (entries told) n path → Leading n path
+  leading : {n : ℕ} {path : List PathEntry} → PathOf (told_entries told) n path → Leading n path
   leading (at_root {n = n} e name there is) = begins n e name there is
   leading (at_entry {n = n} {number = number} {path = path} e index there is before) = goes_on n number path e index there is (leading before)
 
   module _ (p word : ℕ) (placed : b.place p ≡ Some word) (alone : (q : ℕ) → b.place q ≡ Some word → q ≡ p) where
     -- the path to the entry with an object's word leads to that object
-    pub leads_there : (k : ℕ) (path : List PathEntry) → position (λ (e : PathEntry). nat_eq e.word word) (entries told) ≡ Some k → PathOf (entries told) k path
-        → (walk : List Told) × ((path ≡ entries walk) × IsPath b.scoped b.table b.place walk p)
+    pub leads_there : (k : ℕ) (path : List PathEntry) → position (λ (e : PathEntry). nat_eq e.word word) (told_entries told) ≡ Some k → PathOf (told_entries told) k path
+        → (walk : List Told) × ((path ≡ told_entries walk) × IsPath b.scoped b.table b.place walk p)
     leads_there k path found by =
-        let e = found_entry word (entries told) k found in
+        let e = found_entry word (told_entries told) k found in
         let all = leading by in
         let x = told_at told k e.0 e.1.0 in
         let same : x.0 ≡ all.last = same_Some x.0 all.last (sym x.1.0 ∙ all.there) in
@@ -208,11 +208,11 @@ module _ {D : Type 0} (b : Basis D) (told : List Told) (report : IsReport b.scop
         (all.walk, (all.path_is, subst (IsPath b.scoped b.table b.place all.walk) is all.is_path))
 
     -- where no entry has the word, there is no walk to the object
-    pub leads_nowhere : position (λ (e : PathEntry). nat_eq e.word word) (entries told) ≡ None → IsWalked b.scoped b.table p → ⊥
+    pub leads_nowhere : position (λ (e : PathEntry). nat_eq e.word word) (told_entries told) ≡ None → IsWalked b.scoped b.table p → ⊥
     leads_nowhere none walked =
         let among = (report.objects.all p).1 walked in
         let image = map_among (λ (x : Told). x.position) told p among in
         let index = contains_get told image.of image.among in
-        let there : slice_get (entries told) index.0 ≡ Some image.of.entry = slice_get-map (λ (x : Told). x.entry) told index.0 ∙ ap (option_map (λ (x : Told). x.entry)) index.1 in
+        let there : slice_get (told_entries told) index.0 ≡ Some image.of.entry = slice_get-map (λ (x : Told). x.entry) told index.0 ∙ ap (option_map (λ (x : Told). x.entry)) index.1 in
         let same : Some image.of.entry.word ≡ Some word = sym (report.each index.0 image.of index.1).word ∙ ap b.place image.is ∙ placed in
-        no_entry word (entries told) none index.0 image.of.entry there (same_Some image.of.entry.word word same)
+        no_entry word (told_entries told) none index.0 image.of.entry there (same_Some image.of.entry.word word same)

@@ -13,14 +13,14 @@ use Rattle.gc_values.specs.declared.root.RootFault.{RootFault}
 use Rattle.gc_paths.specs.declared.entry.PathEntry.{PathEntry}
 use Rattle.gc_paths.specs.declared.fault.PathFault.{PathFault}
 use Rattle.gc_paths.specs.Answers.{OnlyPushed, Reports}
-use Rattle.gc_paths.specs.Faults.{refused}
+use Rattle.gc_paths.specs.Faults.{search_fault}
 use Rattle.gc_paths.specs.Progress.{Basis}
-use Rattle.gc_path_to.specs.Targets.{AreEarlier, HasRoom, Leads, LeadsNowhere, PathOf}
+use Rattle.gc_path_to.specs.Targets.{AreEarlier, HasRootRoom, FindsPath, LeadsNowhere, PathOf}
 use Rattle.gc_path_to.proofs.Leading.{are_earlier, found_entry, leads_there, leads_nowhere}
 
 -- a store's refusal, handed on
-pub refused_as : {A B : Type 0} (why root : RootFault) (out : PathFault) → out ≡ refused why → ◌≡◌ {A = Result A RootFault} (Err why) (Err root) → ◌≡◌ {A = Result B PathFault} (Err out) (Err (refused root))
-refused_as why root out is same = let e : why ≡ root = cc in ap Err (is ∙ ap refused e)
+pub refused_as : {A B : Type 0} (why root : RootFault) (out : PathFault) → out ≡ search_fault why → ◌≡◌ {A = Result A RootFault} (Err why) (Err root) → ◌≡◌ {A = Result B PathFault} (Err out) (Err (search_fault root))
+refused_as why root out is same = let e : why ≡ root = cc in ap Err (is ∙ ap search_fault e)
 
 -- a word is no refusal
 pub not_refused : {A : Type 0} (word : A) (root : RootFault) → ◌≡◌ {A = Result A RootFault} (Ok word) (Err root) → ⊥
@@ -46,7 +46,7 @@ module _ {D : Type 0} (layouts : Layouts) (s : StoreView D) (t : Table D) (place
     basis : Basis D
     basis = record { scoped = false; table = t; place = place; account = a }
 
-    room : HasRoom false t
+    room : HasRootRoom false t
     room = record { count = reports.count; needs = reports.needs; room = reports.room }
 
     pub parents_earlier : AreEarlier es
@@ -57,7 +57,7 @@ module _ {D : Type 0} (layouts : Layouts) (s : StoreView D) (t : Table D) (place
       alone : (q : ℕ) → place q ≡ Some word → q ≡ p
       alone q is = there.0.objects.injective q p word is placed
 
-      pub leads : (k : ℕ) (path : List PathEntry) → position (λ (e : PathEntry). nat_eq e.word word) es ≡ Some k → PathOf es k path → Leads t place p path
+      pub leads : (k : ℕ) (path : List PathEntry) → position (λ (e : PathEntry). nat_eq e.word word) es ≡ Some k → PathOf es k path → FindsPath t place p path
       unfolding basis
       leads k path found by =
           let walk = leads_there basis reports.told reports.report p word placed alone k path

@@ -6,7 +6,7 @@ use Rattle.gc_store.specs.declared.root_words.RootName.{RootName}
 use Rattle.gc_paths.specs.declared.entry.PathEntry.{PathEntry}
 use Rattle.gc_paths.specs.declared.entry.PathParent.TheVariants as parent
 use Rattle.gc_paths.specs.Walks.{IsWalked, IsLeast}
-use Rattle.gc_paths.specs.Reports.{Told, entries, IsEntry}
+use Rattle.gc_paths.specs.Reports.{Told, told_entries, IsEntry}
 use Rattle.gc_paths.specs.Answers.{NeedsRoots, LacksRoots}
 
 -- A path to a position: its entries come one from the other, the first from a root, and each has the least length of a walk,
@@ -21,22 +21,22 @@ pub record IsPath {D : Type 0} (scoped : Bool) (t : Table D) (place : Placing) (
   pub position : target.position ≡ p
 
 -- there is room for the roots that the walks need
-pub record HasRoom {D : Type 0} (scoped : Bool) (t : Table D) : Type 0 where
+pub record HasRootRoom {D : Type 0} (scoped : Bool) (t : Table D) : Type 0 where
   pub count : ℕ
   pub needs : NeedsRoots scoped t count
   pub room : ¬ LacksRoots t count
 
 -- these entries are a path to the position
-pub record Leads {D : Type 0} (t : Table D) (place : Placing) (p : ℕ) (result : List PathEntry) : Type 0 where
+pub record FindsPath {D : Type 0} (t : Table D) (place : Placing) (p : ℕ) (result : List PathEntry) : Type 0 where
   pub told : List Told
-  pub result_is : result ≡ entries told
+  pub result_is : result ≡ told_entries told
   pub path : IsPath false t place told p
-  pub room : HasRoom false t
+  pub room : HasRootRoom false t
 
 -- there is no walk to the position
 pub record LeadsNowhere {D : Type 0} (t : Table D) (p : ℕ) : Type 0 where
   pub none : ¬ IsWalked false t p
-  pub room : HasRoom false t
+  pub room : HasRootRoom false t
 
 -- an entry whose parent is the one before it
 abbrev pub behind_parent : ℕ → ℕ → ℕ → PathEntry

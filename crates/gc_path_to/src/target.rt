@@ -9,9 +9,9 @@ ghost use Rattle.gc_store.specs.OwnedWords.{HoldsThere};
 ghost use Rattle.gc_store.specs.Roots.{NamesNothing, NamesReference, is_of_store};
 ghost use Rattle.gc_store.specs.Stores.{IsSameStore};
 ghost use Rattle.gc_paths.specs.Answers.{OnlyPushed, RefusesPaths};
-ghost use Rattle.gc_paths.specs.Faults.{refused};
+ghost use Rattle.gc_paths.specs.Faults.{search_fault};
 ghost use Rattle.gc_paths.specs.declared.entry.PathEntry.{PathEntry};
-ghost use Rattle.gc_path_to.specs.Targets.{AreEarlier, Leads, LeadsNowhere, PathOf, behind_parent};
+ghost use Rattle.gc_path_to.specs.Targets.{AreEarlier, FindsPath, LeadsNowhere, PathOf, behind_parent};
 
 use gc_heap::GcHeap;
 use gc_paths::{PathEntry, PathFault, PathParent, all_paths};
@@ -21,7 +21,7 @@ use std::alloc::{AllocError, Global};
 
 /// A store's refusal as one of these calls.
 fn refused(fault: RootFault) -> PathFault
-    ensures { result ≡ refused fault }
+    ensures { result ≡ search_fault fault }
 {
     match fault {
         RootFault::WrongStore => PathFault::WrongStore,
@@ -94,7 +94,7 @@ pub fn path_to<H: GcHeap, D: Drop>(
         → result ≡ Err PathFault.NoObject }
     ensures answers { (t : Table D) (place : Placing) (a : Account) (p : ℕ) → HoldsThere H.KIND store.old t place a
         → NamesReference store.old t target (at p)
-        → MatchResult result (λ found. MatchOption found (LeadsNowhere t p) (λ path. Leads t place p path.items)) (RefusesPaths false t) }
+        → MatchResult result (λ found. MatchOption found (LeadsNowhere t p) (λ path. FindsPath t place p path.items)) (RefusesPaths false t) }
     ensures leaves { (t : Table D) (place : Placing) (a : Account) → HoldsThere H.KIND store.old t place a
         → OnlyPushed H.KIND t place a store.new }
     ensures same { IsSameStore store.old store.new }

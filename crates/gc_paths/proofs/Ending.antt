@@ -16,14 +16,14 @@ use Rattle.gc_model.proofs.Members.{get_contains, contains_get, map_among, among
 use Rattle.gc_policy.proofs.HeldSums.{no_other}
 use Rattle.gc_policy.specs.Accounts.{Account}
 use Rattle.gc_store.specs.OwnedWords.{HoldsThere}
-use Rattle.gc_paths.specs.Walks.{root, ValueNames, Walk, from_root, from_object, IsWalked, start_references}
+use Rattle.gc_paths.specs.Walks.{start_root, ValueNames, Walk, from_root, from_object, IsWalked, start_references}
 use Rattle.gc_values.specs.declared.root.GcRootIndex.{GcRootIndex}
 use Rattle.gc_paths.specs.declared.search.Found.{Found}
 use Rattle.gc_paths.specs.Left.{FoundAll}
 use Rattle.gc_paths.specs.Reports.{Told, positions}
 use Rattle.gc_paths.specs.Answers.{LacksRoots, Reports, OnlyPushed, drops_after, present_count, held_count}
 use Rattle.gc_paths.specs.Parts.{Parts}
-use Rattle.gc_paths.specs.Progress.{Basis, Grown, HoldsGrown, Stopped, Ended, IsToldBy, TellsStarts}
+use Rattle.gc_paths.specs.Progress.{Basis, Grown, HoldsGrown, StoppedSearch, Ended, IsToldBy, TellsStarts}
 use Rattle.gc_paths.proofs.Growing.{grown_scoped, grown_most}
 use Rattle.gc_paths.proofs.Taken.{told_kept}
 use Rattle.gc_paths.proofs.ObjectsLoop.{position_at}
@@ -49,7 +49,7 @@ room_is layouts b count s holds (inr (ended, some)) = holds.grown.free some ende
 module _ {D : Type 0} (layouts : Layouts) (b : Basis D) (told : List Told) (count : ℕ) (s : StoreView D) (r : Parts) (starts : TellsStarts b told) (ended : Ended layouts b told count s r) where
   -- the object at the end of each walk is told, and no longer
   all_told : {n p : ℕ} → Walk b.scoped b.table n p → IsToldBy ended.told p n
-  all_told (from_root {p = p} name c) = told_kept told ended.told p 0 ended.kept (starts (root name (at p)) p c refl)
+  all_told (from_root {p = p} name c) = told_kept told ended.told p 0 ended.kept (starts (start_root name (at p)) p c refl)
   all_told (from_object {length = n} {q = q} {p = p} index walk names) =
       let by = all_told walk in
       let next = ended.named by.index by.one index p (slice_get_within ended.told by.index by.one by.there) by.there (subst (λ x. ValueNames b.table.objects x index p) (sym by.position) names) in
@@ -136,7 +136,7 @@ left_table t now count grown =
     })
 
 -- the scope of a search is left
-pub pushed_left : {D : Type 0} (layouts : Layouts) (b : Basis D) (mid new : StoreView D) → Stopped layouts b mid
+pub pushed_left : {D : Type 0} (layouts : Layouts) (b : Basis D) (mid new : StoreView D) → StoppedSearch layouts b mid
     → ((t : Table D) (place : Placing) (a : Account) → HoldsThere layouts mid t place a → HoldsThere layouts new (leave (length b.table.scoped) t) place a) → OnlyPushed layouts b.table b.place b.account new
 pushed_left layouts b mid new (count, holds) leaves = record {
   more = holds.grown.pushes;

@@ -17,7 +17,7 @@ use Rattle.gc_paths.specs.Walks.{ValueNames, IsWalked}
 use Rattle.gc_paths.specs.Reports.{Told, positions}
 use Rattle.gc_paths.specs.Answers.{LacksRoots, held_count}
 use Rattle.gc_paths.specs.Parts.{Parts}
-use Rattle.gc_paths.specs.Progress.{Basis, Progress, GoesOn, AnswersPart, Keeps, IsToldBy, TellsValues, TellsNamed, Ended, PassesRoom, values_count}
+use Rattle.gc_paths.specs.Progress.{Basis, Progress, SearchGoesOn, AnswersPart, KeepsTold, IsToldBy, TellsValues, TellsNamed, Ended, PassesRoom, values_count}
 use Rattle.gc_paths.specs.Steps.{IsReading}
 use Rattle.gc_paths.proofs.Growing.{grown_objects, lacks_more}
 use Rattle.gc_paths.proofs.Taken.{keeps_itself, keeps_twice, told_kept}
@@ -30,7 +30,7 @@ held_at b p = held_count (slice_get b.table.objects p)
 -- so many entries' objects were taken
 pub record Round {D : Type 0} (layouts : Layouts) (b : Basis D) (before : List Told) (start entry : ℕ) (s : StoreView D) (r : Parts) : Type 0 where
   pub told : List Told
-  pub kept : Keeps before told
+  pub kept : KeepsTold before told
   pub bound : ℕ
   pub total : ℕ
   pub progress : Progress layouts b told bound total s r
@@ -40,7 +40,7 @@ pub record Round {D : Type 0} (layouts : Layouts) (b : Basis D) (before : List T
   pub reached : entry ≤ length told
 
 -- the first elements of a longer list
-first_same : (xs ys : List Told) (n : ℕ) → n ≤ length xs → Keeps xs ys → take n (positions ys) ≡ take n (positions xs)
+first_same : (xs ys : List Told) (n : ℕ) → n ≤ length xs → KeepsTold xs ys → take n (positions ys) ≡ take n (positions xs)
 first_same xs ys zero below keeps = refl
 first_same [] ys (suc n) below keeps = absurd (omega (arith, below))
 first_same (x ∷ xs) [] (suc n) below keeps = absurd (none-some x (keeps 0 x refl))
@@ -109,7 +109,7 @@ module _ {D : Type 0} (layouts : Layouts) (b : Basis D) (before : List Told) (st
         let total = round.total_is in
         omega (arith, more, one, first, total)
 
-    module _ (new : StoreView D) (after : Parts) (next : GoesOn layouts b round.told (x.entry.length + 1) (round.total + values_count (object_values o)) new after (TellsValues (x.entry.length + 1) (length (object_values o)) (object_values o))) where
+    module _ (new : StoreView D) (after : Parts) (next : SearchGoesOn layouts b round.told (x.entry.length + 1) (round.total + values_count (object_values o)) new after (TellsValues (x.entry.length + 1) (length (object_values o)) (object_values o))) where
       x_there : slice_get next.told entry ≡ Some x
       x_there = next.kept entry x there
 

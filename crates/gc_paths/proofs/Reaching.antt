@@ -19,22 +19,22 @@ use Rattle.gc_policy.proofs.CollectedKept.{reached_placed}
 use Rattle.gc_policy.proofs.HeldNumber as held
 use Rattle.gc_policy.proofs.HeldSums.{passing, passes, distinct_passing, sum_part}
 use Rattle.gc_policy.proofs.HeldPaths.{is_reached, is_reached-true, true-is_reached}
-use Rattle.gc_store.specs.RootWords.{numbered}
-use Rattle.gc_paths.specs.Walks.{Root, root, global_root, pending_roots, slot_root, frame_roots, owned_root, scoped_root, scoped_roots, start_roots, start_references, Walk, from_root, from_object, IsWalked}
+use Rattle.gc_store.specs.RootWords.{with_numbers}
+use Rattle.gc_paths.specs.Walks.{StartRoot, start_root, global_root, pending_roots, slot_root, frame_roots, owned_root, scoped_root, scoped_roots, start_roots, start_references, Walk, from_root, from_object, IsWalked}
 use Rattle.gc_paths.specs.Answers.{LacksRoots, IsFull, present_count, held_count}
 use Rattle.gc_paths.proofs.Growing.{lacks_more}
 
-abbrev reference_of : Root → Reference
+abbrev reference_of : StartRoot → Reference
 reference_of r = r.reference
 
-numbered_references : {A : Type 0} (have : ℕ → A → Root) (f : A → Reference) → ((k : ℕ) (x : A) → (have k x).reference ≡ f x) → (from : ℕ) (xs : List A) → map reference_of (numbered have from xs) ≡ map f xs
+numbered_references : {A : Type 0} (have : ℕ → A → StartRoot) (f : A → Reference) → ((k : ℕ) (x : A) → (have k x).reference ≡ f x) → (from : ℕ) (xs : List A) → map reference_of (with_numbers have from xs) ≡ map f xs
 numbered_references have f same from [] = refl
 numbered_references have f same from (x ∷ xs) = λ i. same from x i ∷ numbered_references have f same (from + 1) xs i
 
 frame_references : (from : ℕ) (frames : List (List Slot)) → map reference_of (frame_roots from frames) ≡ flat_map slot_references frames
 frame_references from [] = refl
 frame_references from (slots ∷ frames) =
-    map-append reference_of (numbered (slot_root from) 0 slots) (frame_roots (from + 1) frames)
+    map-append reference_of (with_numbers (slot_root from) 0 slots) (frame_roots (from + 1) frames)
     ∙ (λ i. numbered_references (slot_root from) (λ (s : Slot). s.reference) (λ k x. refl) 0 slots i ++ frame_references (from + 1) frames i)
 
 owned_are : (owned : List Owned) → map reference_of (map owned_root owned) ≡ owned_references owned
@@ -59,7 +59,7 @@ scoped_are true roots = numbered_references scoped_root (λ (x : Scoped). x.refe
 -- what the roots name from which walks begin, kind by kind
 start_are : {D : Type 0} (scoped : Bool) (t : Table D) → start_references scoped t ≡ slot_references t.globals ++ (present t.pending ++ (flat_map slot_references t.frames ++ (owned_references t.owned ++ asked_references scoped t.scoped)))
 start_are scoped t =
-    map-append reference_of (numbered global_root 0 t.globals) (pending_roots t.pending ++ (frame_roots 0 t.frames ++ (map owned_root t.owned ++ scoped_roots scoped t.scoped)))
+    map-append reference_of (with_numbers global_root 0 t.globals) (pending_roots t.pending ++ (frame_roots 0 t.frames ++ (map owned_root t.owned ++ scoped_roots scoped t.scoped)))
     ∙ (λ i. numbered_references global_root (λ (s : Slot). s.reference) (λ k x. refl) 0 t.globals i
     ++ (map-append reference_of (pending_roots t.pending) (frame_roots 0 t.frames ++ (map owned_root t.owned ++ scoped_roots scoped t.scoped))
     ∙ (λ j. pending_are t.pending j
@@ -161,7 +161,7 @@ among_values (v ∷ vs) r c = elim (Contains-append_cases (value_references v) (
 
 module _ {D : Type 0} (scoped : Bool) (t : Table D) where
   pub walk_reached : {n p : ℕ} → Walk scoped t n p → Reached t.objects (start_references scoped t) p
-  walk_reached (from_root {p = p} name c) = by_start (among_map reference_of (start_roots scoped t) (root name (at p)) c)
+  walk_reached (from_root {p = p} name c) = by_start (among_map reference_of (start_roots scoped t) (start_root name (at p)) c)
   walk_reached (from_object {q = q} {p = p} index walk names) =
       by_step (walk_reached walk) (record { object = names.object; there = names.there; among = values_among (object_values names.object) index names.class (at p) names.value })
 

@@ -31,16 +31,16 @@ use Rattle.gc_paths.specs.declared.fault.PathFault.TheVariants as path_fault
 use Rattle.gc_paths.specs.Walks.{ValueNames, Walk, from_object}
 use Rattle.gc_paths.specs.Reports.{Told}
 use Rattle.gc_paths.specs.Answers.{LacksRoots}
-use Rattle.gc_paths.specs.Faults.{refused}
+use Rattle.gc_paths.specs.Faults.{search_fault}
 use Rattle.gc_paths.specs.Parts.{Parts}
 use Rattle.gc_paths.specs.Taking.{TakesReference}
-use Rattle.gc_paths.specs.Progress.{Basis, Progress, GoesOn, Stopped, AnswersPart, TellsValue, value_count, IsToldBy}
+use Rattle.gc_paths.specs.Progress.{Basis, Progress, SearchGoesOn, StoppedSearch, AnswersPart, TellsValue, present_in_value, IsToldBy}
 use Rattle.gc_paths.specs.Steps.{IsReading, CanTake}
 use Rattle.gc_paths.proofs.Growing.{grown_push, grown_objects, full_lacks, free_drops, named_pushed, named_same, new_named}
 use Rattle.gc_paths.proofs.Taken.{keeps_itself, object_taken, number_taken}
 
 -- the search stops where memory is wanting
-pub stopped_by : {D : Type 0} (layouts : Layouts) (b : Basis D) (Went Full : Type 0) (why : PathFault) (s : StoreView D) → why ≡ path_fault.Memory → Stopped layouts b s → AnswersPart layouts b Went Full (Err why) s
+pub stopped_by : {D : Type 0} (layouts : Layouts) (b : Basis D) (Went Full : Type 0) (why : PathFault) (s : StoreView D) → why ≡ path_fault.Memory → StoppedSearch layouts b s → AnswersPart layouts b Went Full (Err why) s
 stopped_by layouts b Went Full why s is stopped = subst (λ (w : PathFault). AnswersPart layouts b Went Full (Err w) s) (sym is) stopped
 
 module _ {D : Type 0} (layouts : Layouts) (b : Basis D) (told : List Told) (bound count : ℕ) (s : StoreView D) (old : Parts) (progress : Progress layouts b told bound count s old) where
@@ -50,7 +50,7 @@ module _ {D : Type 0} (layouts : Layouts) (b : Basis D) (told : List Told) (boun
   pub held : HoldsAccount layouts s now b.account
   held = record { place = b.place; holds = progress.holds.there.0; account = progress.holds.there.1 }
 
-  pub stops : Stopped layouts b s
+  pub stops : StoppedSearch layouts b s
   stops = (count, progress.holds)
 
   module _ (new : StoreView D) (same : IsSameStore s new) where
@@ -98,7 +98,7 @@ module _ {D : Type 0} (layouts : Layouts) (b : Basis D) (told : List Told) (boun
 
       module _ (new : StoreView D) (same : IsSameStore s new) where
         -- nothing more is told
-        nothing_named : (count' : ℕ) → count ≡ count' → HoldsThere layouts new now b.place b.account → ((p : ℕ) → Contains (value_references v) (at p) → ⊥) → GoesOn layouts b told bound count' new old (TellsValue bound v)
+        nothing_named : (count' : ℕ) → count ≡ count' → HoldsThere layouts new now b.place b.account → ((p : ℕ) → Contains (value_references v) (at p) → ⊥) → SearchGoesOn layouts b told bound count' new old (TellsValue bound v)
         nothing_named count' is there none = record {
           told = told;
           kept = keeps_itself told;
@@ -131,28 +131,28 @@ module _ {D : Type 0} (layouts : Layouts) (b : Basis D) (told : List Told) (boun
               names_new = new_named layouts s now b.place progress.holds.there.0 new (at p) found is_new
 
               takes_object : (r : Result (Unit {0}) PathFault) → TakesReference b.place (at p) found from bound old after r
-                  → AnswersPart layouts b (GoesOn layouts b told bound (count + 1) new after (λ then. IsToldBy then p bound)) (LacksRoots b.table (count + 1)) r new
+                  → AnswersPart layouts b (SearchGoesOn layouts b told bound (count + 1) new after (λ then. IsToldBy then p bound)) (LacksRoots b.table (count + 1)) r new
               takes_object (Ok done) taken =
                   object_taken layouts b told bound (count + 1) new old (progress_pushed new same (at p) free there) p found from names_new
                   (record { earlier = below; holder = reading.one; there = reading.there; shorter = reading.next; names = value_names class p is })
                   (walk_on class p is) low (let few = progress.few in omega (arith, few)) taken.0 after taken.1.0 taken.1.1
-              takes_object (Err why) taken = stopped_by layouts b (GoesOn layouts b told bound (count + 1) new after (λ then. IsToldBy then p bound)) (LacksRoots b.table (count + 1)) why new taken (count + 1, (progress_pushed new same (at p) free there).holds)
+              takes_object (Err why) taken = stopped_by layouts b (SearchGoesOn layouts b told bound (count + 1) new after (λ then. IsToldBy then p bound)) (LacksRoots b.table (count + 1)) why new taken (count + 1, (progress_pushed new same (at p) free there).holds)
 
-              pub object_read : AnswersPart layouts b (GoesOn layouts b told bound (count + 1) new after (λ then. IsToldBy then p bound)) (LacksRoots b.table (count + 1)) result new
+              pub object_read : AnswersPart layouts b (SearchGoesOn layouts b told bound (count + 1) new after (λ then. IsToldBy then p bound)) (LacksRoots b.table (count + 1)) result new
               object_read = takes_object result (takes (push (at p) now) b.place (at p) there.0 names_new)
 
             module _ (class : GcClass) (n : ℕ) (there : HoldsThere layouts new (push (small n) now) b.place b.account) where
               takes_number : (r : Result (Unit {0}) PathFault) → TakesReference b.place (small n) found from bound old after r
-                  → AnswersPart layouts b (GoesOn layouts b told bound (count + 1) new after (λ then. Unit {0})) (LacksRoots b.table (count + 1)) r new
+                  → AnswersPart layouts b (SearchGoesOn layouts b told bound (count + 1) new after (λ then. Unit {0})) (LacksRoots b.table (count + 1)) r new
               takes_number (Ok done) taken = number_taken layouts b told bound (count + 1) new old (progress_pushed new same (small n) free there) after (λ then. Unit {0}) taken tt
-              takes_number (Err why) taken = stopped_by layouts b (GoesOn layouts b told bound (count + 1) new after (λ then. Unit {0})) (LacksRoots b.table (count + 1)) why new taken (count + 1, (progress_pushed new same (small n) free there).holds)
+              takes_number (Err why) taken = stopped_by layouts b (SearchGoesOn layouts b told bound (count + 1) new after (λ then. Unit {0})) (LacksRoots b.table (count + 1)) why new taken (count + 1, (progress_pushed new same (small n) free there).holds)
 
-              pub number_read : AnswersPart layouts b (GoesOn layouts b told bound (count + 1) new after (λ then. Unit {0})) (LacksRoots b.table (count + 1)) result new
+              pub number_read : AnswersPart layouts b (SearchGoesOn layouts b told bound (count + 1) new after (λ then. Unit {0})) (LacksRoots b.table (count + 1)) result new
               number_read = takes_number result (takes (push (small n) now) b.place (small n) there.0 (new_named layouts s now b.place progress.holds.there.0 new (small n) found is_new))
 
 -- what is done is more than was asked for
 pub answers_more : {D : Type 0} (layouts : Layouts) (b : Basis D) (told : List Told) (bound count : ℕ) (s : StoreView D) (r : Parts) (Done More : List Told → Type 0) (Full : Type 0) (result : Result (Unit {0}) PathFault) → ((now : List Told) → Done now → More now)
-    → AnswersPart layouts b (GoesOn layouts b told bound count s r Done) Full result s → AnswersPart layouts b (GoesOn layouts b told bound count s r More) Full result s
+    → AnswersPart layouts b (SearchGoesOn layouts b told bound count s r Done) Full result s → AnswersPart layouts b (SearchGoesOn layouts b told bound count s r More) Full result s
 answers_more layouts b told bound count s r Done More Full (Ok x) more goes = record { told = goes.told; kept = goes.kept; progress = goes.progress; done = more goes.told goes.done }
 answers_more layouts b told bound count s r Done More Full (Err path_fault.WrongStore) more never = never
 answers_more layouts b told bound count s r Done More Full (Err path_fault.Unrooted) more never = never
@@ -174,7 +174,7 @@ module _ {D : Type 0} (layouts : Layouts) (b : Basis D) (told : List Told) (boun
   pub read_taken : (v : Value) → slice_get (object_values o) index ≡ Some v → (r : RawValue) → ReadsValue layouts table b.account v (Ok r) new → HoldsThere layouts new (after_read v table) b.place b.account
       → (found : GcRootIndex) → raw_handle r ≡ Some found → (after : Parts) (result : Result (Unit {0}) PathFault)
       → ((t : Table D) (place : Placing) (q : Reference) → Holds layouts new t place → NamesReference new t found q → TakesReference place q found (parent.FromEntry number index) bound old after result)
-      → AnswersPart layouts b (GoesOn layouts b told bound (count + value_count v) new after (TellsValue bound v)) (LacksRoots b.table (count + value_count v)) result new
+      → AnswersPart layouts b (SearchGoesOn layouts b told bound (count + present_in_value v) new after (TellsValue bound v)) (LacksRoots b.table (count + present_in_value v)) result new
   read_taken (numeric i32 n) value_at r reads there found some after result takes = absurd (no_handle r (raw.I32 reads.1.0.0) found reads.1.0.1.0 refl some)
   read_taken (numeric i64 n) value_at r reads there found some after result takes = absurd (no_handle r (raw.I64 reads.1.0.0) found reads.1.0.1.0 refl some)
   read_taken (numeric f32 n) value_at r reads there found some after result takes = absurd (no_handle r (raw.F32 n) found reads.1.0 refl some)
@@ -200,7 +200,7 @@ module _ {D : Type 0} (layouts : Layouts) (b : Basis D) (told : List Told) (boun
 
   -- a value was read that is no reference, or null
   pub read_passed : (v : Value) → slice_get (object_values o) index ≡ Some v → (r : RawValue) → ReadsValue layouts table b.account v (Ok r) new → HoldsThere layouts new (after_read v table) b.place b.account → raw_handle r ≡ None
-      → GoesOn layouts b told bound (count + value_count v) new old (TellsValue bound v)
+      → SearchGoesOn layouts b told bound (count + present_in_value v) new old (TellsValue bound v)
   read_passed (numeric kind n) value_at r reads there none = nothing_named layouts b told bound count s old progress number o reading h at_h index (numeric kind n) value_at new same (count + 0) (omega arith) there (λ p c. absurd (let inside = c.1 in omega (arith, inside)))
   read_passed (function f) value_at r reads there none = nothing_named layouts b told bound count s old progress number o reading h at_h index (function f) value_at new same (count + 0) (omega arith) there (λ p c. absurd (let inside = c.1 in omega (arith, inside)))
   read_passed (continuation cont) value_at r reads there none = nothing_named layouts b told bound count s old progress number o reading h at_h index (continuation cont) value_at new same (count + 0) (omega arith) there (λ p c. absurd (let inside = c.1 in omega (arith, inside)))
@@ -211,7 +211,7 @@ module _ {D : Type 0} (layouts : Layouts) (b : Basis D) (told : List Told) (boun
   read_passed (reference class (small n)) value_at r reads there none = absurd (none-some _ (sym none ∙ ap raw_handle reads.1.0))
   read_passed (reference class (at q)) value_at r reads there none = absurd (none-some _ (sym none ∙ ap raw_handle reads.1.0))
 
-  makes_count : (v : Value) → makes_root v ≡ true → 1 ≡ value_count v
+  makes_count : (v : Value) → makes_root v ≡ true → 1 ≡ present_in_value v
   makes_count (numeric kind n) e = absurd (cc)
   makes_count (function f) e = absurd (cc)
   makes_count (continuation cont) e = absurd (cc)
@@ -220,14 +220,14 @@ module _ {D : Type 0} (layouts : Layouts) (b : Basis D) (told : List Told) (boun
   makes_count (reference class (at p)) e = refl
 
   -- or none was read
-  pub read_refused : (v : Value) (why : RootFault) (Went : Type 0) → ReadsValue layouts table b.account v (Err why) new → new ≡ s → AnswersPart layouts b Went (LacksRoots b.table (count + value_count v)) (Err (refused why)) new
+  pub read_refused : (v : Value) (why : RootFault) (Went : Type 0) → ReadsValue layouts table b.account v (Err why) new → new ≡ s → AnswersPart layouts b Went (LacksRoots b.table (count + present_in_value v)) (Err (search_fault why)) new
   read_refused v fault.WrongStore Went never is = absurd never
   read_refused v fault.Unrooted Went never is = absurd never
   read_refused v fault.RootsFull Went full is = (
     subst (λ (n : ℕ). LacksRoots b.table (count + n)) (makes_count v full.0) (full_lacks b.table table count progress.holds.grown full.1.0),
-    subst (Stopped layouts b) (sym is) (count, progress.holds),
+    subst (StoppedSearch layouts b) (sym is) (count, progress.holds),
   )
-  read_refused v fault.Memory Went memory is = subst (Stopped layouts b) (sym is) (count, progress.holds)
+  read_refused v fault.Memory Went memory is = subst (StoppedSearch layouts b) (sym is) (count, progress.holds)
 
   -- the root of a reference that was read is live
   pub read_live : (v : Value) → slice_get (object_values o) index ≡ Some v → (r : RawValue) → ReadsValue layouts table b.account v (Ok r) new → HoldsThere layouts new (after_read v table) b.place b.account

@@ -23,13 +23,13 @@ use Rattle.gc_store.specs.Stores.{IsSameStore}
 use Rattle.gc_store.specs.Values.{IsLive}
 use Rattle.gc_paths.specs.declared.entry.PathParent.TheVariants as parent
 use Rattle.gc_paths.specs.declared.fault.PathFault.{PathFault}
-use Rattle.gc_paths.specs.Walks.{root, start_roots, from_root}
+use Rattle.gc_paths.specs.Walks.{start_root, start_roots, from_root}
 use Rattle.gc_paths.specs.Reports.{Told}
 use Rattle.gc_paths.specs.Answers.{LacksRoots}
-use Rattle.gc_paths.specs.Faults.{refused}
+use Rattle.gc_paths.specs.Faults.{search_fault}
 use Rattle.gc_paths.specs.Parts.{Parts}
 use Rattle.gc_paths.specs.Taking.{TakesReference}
-use Rattle.gc_paths.specs.Progress.{Basis, Progress, GoesOn, Stopped, AnswersPart, IsToldBy, IsStartWord, TellsRoot, word_count}
+use Rattle.gc_paths.specs.Progress.{Basis, Progress, SearchGoesOn, StoppedSearch, AnswersPart, IsToldBy, IsStartWord, TellsRoot, word_count}
 use Rattle.gc_paths.proofs.Growing.{full_lacks, new_named}
 use Rattle.gc_paths.proofs.Taken.{keeps_itself, object_taken, number_taken}
 use Rattle.gc_paths.proofs.Reading.{stopped_by, answers_more, progress_pushed}
@@ -62,7 +62,7 @@ module _ {D : Type 0} (layouts : Layouts) (b : Basis D) (told : List Told) (coun
   counts_one some = ap (λ n. count + n) (some_count some)
 
   -- nothing is named
-  pub root_passed : RootsWord layouts s table b.place b.account (Some w) (Ok found.Null) new → GoesOn layouts b told 0 (count + word_count w) new old (TellsRoot b w)
+  pub root_passed : RootsWord layouts s table b.place b.account (Some w) (Ok found.Null) new → SearchGoesOn layouts b told 0 (count + word_count w) new old (TellsRoot b w)
   root_passed (none, is) = record {
     told = told;
     kept = keeps_itself told;
@@ -74,7 +74,7 @@ module _ {D : Type 0} (layouts : Layouts) (b : Basis D) (told : List Told) (coun
       nothing = let is_none : word_count w ≡ 0 = ap (λ x. cond x 0 1) (eq-eqb w.word 0 none) in omega (arith, is_none)
 
   -- the root that is named, in the table
-  start_there : (n : RootName) (r : Reference) → n ≡ w.name → 0 < w.word → IsWord b.place r w.word → Contains (start_roots b.scoped b.table) (root n r)
+  start_there : (n : RootName) (r : Reference) → n ≡ w.name → 0 < w.word → IsWord b.place r w.word → Contains (start_roots b.scoped b.table) (start_root n r)
   start_there n r named some is =
       let one = start some in
       let same_reference : one.0.reference ≡ r = word_names layouts table b.place s.heap progress.holds.there.0.objects one.0.reference r w.word one.1.1.1 is in
@@ -87,16 +87,16 @@ module _ {D : Type 0} (layouts : Layouts) (b : Basis D) (told : List Told) (coun
       names_new = new_named layouts s table b.place progress.holds.there.0 new (at p) h is_new
 
       takes_object : (r : Result (Unit {0}) PathFault) → TakesReference b.place (at p) h (parent.FromRoot n) 0 old after r
-          → AnswersPart layouts b (GoesOn layouts b told 0 (count + 1) new after (λ then. IsToldBy then p 0)) (LacksRoots b.table (count + 1)) r new
+          → AnswersPart layouts b (SearchGoesOn layouts b told 0 (count + 1) new after (λ then. IsToldBy then p 0)) (LacksRoots b.table (count + 1)) r new
       takes_object (Ok done) taken =
           object_taken layouts b told 0 (count + 1) new old (progress_pushed layouts b told 0 count s old progress new same (at p) free there) p h (parent.FromRoot n) names_new
           (refl, start_there n (at p) named some is) (from_root n (start_there n (at p) named some is)) (omega arith) (let few = progress.few in omega (arith, few)) taken.0 after taken.1.0 taken.1.1
-      takes_object (Err why) taken = stopped_by layouts b (GoesOn layouts b told 0 (count + 1) new after (λ then. IsToldBy then p 0)) (LacksRoots b.table (count + 1)) why new taken (count + 1, (progress_pushed layouts b told 0 count s old progress new same (at p) free there).holds)
+      takes_object (Err why) taken = stopped_by layouts b (SearchGoesOn layouts b told 0 (count + 1) new after (λ then. IsToldBy then p 0)) (LacksRoots b.table (count + 1)) why new taken (count + 1, (progress_pushed layouts b told 0 count s old progress new same (at p) free there).holds)
 
       same_position : (q : ℕ) → b.place q ≡ Some w.word → p ≡ q
       same_position q e = progress.holds.there.0.objects.injective p q w.word is e
 
-      pub object_rooted : AnswersPart layouts b (GoesOn layouts b told 0 (count + 1) new after (TellsRoot b w)) (LacksRoots b.table (count + 1)) result new
+      pub object_rooted : AnswersPart layouts b (SearchGoesOn layouts b told 0 (count + 1) new after (TellsRoot b w)) (LacksRoots b.table (count + 1)) result new
       object_rooted =
           answers_more layouts b told 0 (count + 1) new after (λ then. IsToldBy then p 0) (TellsRoot b w) (LacksRoots b.table (count + 1)) result
           (λ then by q e. subst (λ (x : ℕ). IsToldBy then x 0) (same_position q e) by)
@@ -107,14 +107,14 @@ module _ {D : Type 0} (layouts : Layouts) (b : Basis D) (told : List Told) (coun
       no_object p e = let even = (place_even layouts table b.place s.heap progress.holds.there.0.objects p w.word e).0 in absurd (omega (arith, even, is))
 
       takes_number : (r : Result (Unit {0}) PathFault) → TakesReference b.place (small k) h (parent.FromRoot n) 0 old after r
-          → AnswersPart layouts b (GoesOn layouts b told 0 (count + 1) new after (TellsRoot b w)) (LacksRoots b.table (count + 1)) r new
+          → AnswersPart layouts b (SearchGoesOn layouts b told 0 (count + 1) new after (TellsRoot b w)) (LacksRoots b.table (count + 1)) r new
       takes_number (Ok done) taken = number_taken layouts b told 0 (count + 1) new old (progress_pushed layouts b told 0 count s old progress new same (small k) free there) after (TellsRoot b w) taken (λ p e. absurd (no_object p e))
-      takes_number (Err why) taken = stopped_by layouts b (GoesOn layouts b told 0 (count + 1) new after (TellsRoot b w)) (LacksRoots b.table (count + 1)) why new taken (count + 1, (progress_pushed layouts b told 0 count s old progress new same (small k) free there).holds)
+      takes_number (Err why) taken = stopped_by layouts b (SearchGoesOn layouts b told 0 (count + 1) new after (TellsRoot b w)) (LacksRoots b.table (count + 1)) why new taken (count + 1, (progress_pushed layouts b told 0 count s old progress new same (small k) free there).holds)
 
-      pub number_rooted : AnswersPart layouts b (GoesOn layouts b told 0 (count + 1) new after (TellsRoot b w)) (LacksRoots b.table (count + 1)) result new
+      pub number_rooted : AnswersPart layouts b (SearchGoesOn layouts b told 0 (count + 1) new after (TellsRoot b w)) (LacksRoots b.table (count + 1)) result new
       number_rooted = takes_number result (takes (push (small k) table) b.place (small k) there.0 (new_named layouts s table b.place progress.holds.there.0 new (small k) h is_new))
 
-    by_reference : (r : Reference) → IsWord b.place r w.word → HoldsThere layouts new (push r table) b.place b.account → AnswersPart layouts b (GoesOn layouts b told 0 (count + 1) new after (TellsRoot b w)) (LacksRoots b.table (count + 1)) result new
+    by_reference : (r : Reference) → IsWord b.place r w.word → HoldsThere layouts new (push r table) b.place b.account → AnswersPart layouts b (SearchGoesOn layouts b told 0 (count + 1) new after (TellsRoot b w)) (LacksRoots b.table (count + 1)) result new
     by_reference null is there = absurd (omega (arith, is, some))
     by_reference (small k) is there = number_rooted k is there
     by_reference (at p) is there = object_rooted p is there
@@ -122,18 +122,18 @@ module _ {D : Type 0} (layouts : Layouts) (b : Basis D) (told : List Told) (coun
   -- what a root word names was taken
   pub root_taken : (n : RootName) (h : GcRootIndex) → RootsWord layouts s table b.place b.account (Some w) (Ok (found.Root n h)) new → (after : Parts) (result : Result (Unit {0}) PathFault)
       → ((t : Table D) (place : Placing) (q : Reference) → Holds layouts new t place → NamesReference new t h q → TakesReference place q h (parent.FromRoot n) 0 old after result)
-      → AnswersPart layouts b (GoesOn layouts b told 0 (count + word_count w) new after (TellsRoot b w)) (LacksRoots b.table (count + word_count w)) result new
+      → AnswersPart layouts b (SearchGoesOn layouts b told 0 (count + word_count w) new after (TellsRoot b w)) (LacksRoots b.table (count + word_count w)) result new
   root_taken n h finds after result takes =
       let pushed = finds.1.1.1.1 in
-      subst (λ (m : ℕ). AnswersPart layouts b (GoesOn layouts b told 0 m new after (TellsRoot b w)) (LacksRoots b.table m) result new) (counts_one finds.1.0)
+      subst (λ (m : ℕ). AnswersPart layouts b (SearchGoesOn layouts b told 0 m new after (TellsRoot b w)) (LacksRoots b.table m) result new) (counts_one finds.1.0)
       (by_reference n h after result takes finds.0 finds.1.0 pushed.0.0 pushed.0.1.0 finds.1.1.0 finds.1.1.1.0 pushed.1)
 
   -- or no root was pushed for it
-  pub root_refused : (why : RootFault) (Went : Type 0) → RootsWord layouts s table b.place b.account (Some w) (Err why) new → new ≡ s → AnswersPart layouts b Went (LacksRoots b.table (count + word_count w)) (Err (refused why)) new
+  pub root_refused : (why : RootFault) (Went : Type 0) → RootsWord layouts s table b.place b.account (Some w) (Err why) new → new ≡ s → AnswersPart layouts b Went (LacksRoots b.table (count + word_count w)) (Err (search_fault why)) new
   root_refused fault.WrongStore Went finds is = absurd finds.1.1.1
   root_refused fault.Unrooted Went finds is = absurd finds.1.1.1
   root_refused fault.RootsFull Went finds is = (
     subst (LacksRoots b.table) (counts_one finds.0) (full_lacks b.table table count progress.holds.grown finds.1.1.1.0),
-    subst (Stopped layouts b) (sym is) (count, progress.holds),
+    subst (StoppedSearch layouts b) (sym is) (count, progress.holds),
   )
-  root_refused fault.Memory Went finds is = subst (Stopped layouts b) (sym is) (count, progress.holds)
+  root_refused fault.Memory Went finds is = subst (StoppedSearch layouts b) (sym is) (count, progress.holds)

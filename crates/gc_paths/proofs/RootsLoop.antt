@@ -19,14 +19,14 @@ use Rattle.gc_store.specs.declared.root_words.RootName.{RootName}
 use Rattle.gc_store.specs.declared.root_words.RootName.TheVariants as name
 use Rattle.gc_store.specs.declared.root_words.RootWord.{RootWord}
 use Rattle.gc_store.specs.OwnedWords.{HoldsThere}
-use Rattle.gc_store.specs.RootWords.{numbered, root_word, root_words, global_root, slot_root, slot_roots, owned_root, scoped_root}
+use Rattle.gc_store.specs.RootWords.{with_numbers, root_word, root_words, global_root_word, slot_root_word, slot_roots, owned_root_word, scoped_root_word}
 use Rattle.gc_store.specs.Staying.{OnlyAdds}
 use Rattle.gc_paths.specs.declared.fault.PathFault.{PathFault}
 use Rattle.gc_paths.specs.declared.fault.PathFault.TheVariants as path_fault
 use Rattle.gc_paths.specs.Walks.{start_roots, start_references}
 use Rattle.gc_paths.specs.Answers.{LacksRoots, present_count}
 use Rattle.gc_paths.specs.Parts.{Parts, empty_parts}
-use Rattle.gc_paths.specs.Progress.{Basis, Progress, GoesOn, AnswersPart, IsStartWord, TellsRoot, TellsStarts, word_count}
+use Rattle.gc_paths.specs.Progress.{Basis, Progress, SearchGoesOn, AnswersPart, IsStartWord, TellsRoot, TellsStarts, word_count}
 use Rattle.gc_paths.proofs.StartRoots.{TellsRoots, scoped_words, start_words}
 use Rattle.gc_paths.specs.StartWords.{is_start_name}
 use Rattle.gc_paths.proofs.Growing.{grown_none, lacks_more}
@@ -35,8 +35,8 @@ use Rattle.gc_paths.proofs.Starts.{StandFor, starts_stand}
 
 -- The root words of a store on which roots were pushed
 
-numbered_both : {A B : Type 0} (give : ℕ → A → B) (from next : ℕ) (xs ys : List A) → next ≡ from + length xs → numbered give from (xs ++ ys) ≡ numbered give from xs ++ numbered give next ys
-numbered_both give from next [] ys is = ap (λ k. numbered give k ys) (same is)
+numbered_both : {A B : Type 0} (give : ℕ → A → B) (from next : ℕ) (xs ys : List A) → next ≡ from + length xs → with_numbers give from (xs ++ ys) ≡ with_numbers give from xs ++ with_numbers give next ys
+numbered_both give from next [] ys is = ap (λ k. with_numbers give k ys) (same is)
   where
     same : next ≡ from + 0 → from ≡ next
     same h = omega (arith, h)
@@ -44,12 +44,12 @@ numbered_both give from next (x ∷ xs) ys is = ap (λ zs. give from x ∷ zs) (
 
 -- the words behind those from which walks begin
 abbrev rest_words : Bool → List RootEntry → List RootEntry → List RootWord
-rest_words false scoped entries = numbered scoped_root 0 (scoped ++ entries)
-rest_words true scoped entries = numbered scoped_root (length scoped) entries
+rest_words false scoped entries = with_numbers scoped_root_word 0 (scoped ++ entries)
+rest_words true scoped entries = with_numbers scoped_root_word (length scoped) entries
 
-scoped_split : (asked : Bool) (scoped entries : List RootEntry) → numbered scoped_root 0 (scoped ++ entries) ≡ scoped_words asked scoped ++ rest_words asked scoped entries
+scoped_split : (asked : Bool) (scoped entries : List RootEntry) → with_numbers scoped_root_word 0 (scoped ++ entries) ≡ scoped_words asked scoped ++ rest_words asked scoped entries
 scoped_split false scoped entries = refl
-scoped_split true scoped entries = numbered_both scoped_root 0 (length scoped) scoped entries (omega arith)
+scoped_split true scoped entries = numbered_both scoped_root_word 0 (length scoped) scoped entries (omega arith)
 
 joined : (globals slots owned asked rest : List RootWord) (pending : RootWord) → globals ++ (pending ∷ (slots ++ (owned ++ (asked ++ rest)))) ≡ (globals ++ (pending ∷ (slots ++ (owned ++ asked)))) ++ rest
 joined globals slots owned asked rest pending =
@@ -60,8 +60,8 @@ joined globals slots owned asked rest pending =
 pub words_split : {D : Type 0} (asked : Bool) (s new : StoreView D) → (adds : OnlyAdds s new) → root_words new ≡ start_words asked s ++ rest_words asked s.scoped adds.entries
 words_split asked s new adds =
     ap root_words adds.rest
-    ∙ ap (λ xs. numbered global_root 0 s.globals ++ (root_word name.Pending s.pending ∷ (slot_roots 0 s.frames ++ (map owned_root s.owned ++ xs)))) (scoped_split asked s.scoped adds.entries)
-    ∙ joined (numbered global_root 0 s.globals) (slot_roots 0 s.frames) (map owned_root s.owned) (scoped_words asked s.scoped) (rest_words asked s.scoped adds.entries) (root_word name.Pending s.pending)
+    ∙ ap (λ xs. with_numbers global_root_word 0 s.globals ++ (root_word name.Pending s.pending ∷ (slot_roots 0 s.frames ++ (map owned_root_word s.owned ++ xs)))) (scoped_split asked s.scoped adds.entries)
+    ∙ joined (with_numbers global_root_word 0 s.globals) (slot_roots 0 s.frames) (map owned_root_word s.owned) (scoped_words asked s.scoped) (rest_words asked s.scoped adds.entries) (root_word name.Pending s.pending)
 
 -- Which of them begin walks
 
@@ -80,21 +80,21 @@ module _ (are asked : Bool) (mark : ℕ) where
   both_start [] ws first rest = rest
   both_start (v ∷ vs) ws first rest = more_start v (vs ++ ws) (first 0 v refl) (both_start vs ws (λ i w e. first (suc i) w e) rest)
 
-  numbered_start : {A : Type 0} (give : ℕ → A → RootWord) (from last : ℕ) (xs : List A) → ((k : ℕ) (x : A) → from ≤ k → k < last → is_start_name asked mark (give k x).name ≡ are) → from + length xs ≤ last → AreStarts are asked mark (numbered give from xs)
+  numbered_start : {A : Type 0} (give : ℕ → A → RootWord) (from last : ℕ) (xs : List A) → ((k : ℕ) (x : A) → from ≤ k → k < last → is_start_name asked mark (give k x).name ≡ are) → from + length xs ≤ last → AreStarts are asked mark (with_numbers give from xs)
   numbered_start give from last [] each below = none_start
   numbered_start give from last (x ∷ xs) each below =
-      more_start (give from x) (numbered give (from + 1) xs) (each from x (omega arith) (omega (arith, below)))
+      more_start (give from x) (with_numbers give (from + 1) xs) (each from x (omega arith) (omega (arith, below)))
       (numbered_start give (from + 1) last xs (λ k y over under. each k y (omega (arith, over)) under) (omega (arith, below)))
 
 frames_start : (asked : Bool) (mark from : ℕ) (frames : List (List SlotEntry)) → AreStarts true asked mark (slot_roots from frames)
 frames_start asked mark from [] = none_start true asked mark
 frames_start asked mark from (slots ∷ frames) =
-    both_start true asked mark (numbered (slot_root from) 0 slots) (slot_roots (from + 1) frames)
-    (numbered_start true asked mark (slot_root from) 0 (length slots) slots (λ k x over under. refl) (omega arith)) (frames_start asked mark (from + 1) frames)
+    both_start true asked mark (with_numbers (slot_root_word from) 0 slots) (slot_roots (from + 1) frames)
+    (numbered_start true asked mark (slot_root_word from) 0 (length slots) slots (λ k x over under. refl) (omega arith)) (frames_start asked mark (from + 1) frames)
 
-owned_start : (asked : Bool) (mark : ℕ) (entries : List OwnedEntry) → AreStarts true asked mark (map owned_root entries)
+owned_start : (asked : Bool) (mark : ℕ) (entries : List OwnedEntry) → AreStarts true asked mark (map owned_root_word entries)
 owned_start asked mark [] = none_start true asked mark
-owned_start asked mark (e ∷ entries) = more_start true asked mark (owned_root e) (map owned_root entries) refl (owned_start asked mark entries)
+owned_start asked mark (e ∷ entries) = more_start true asked mark (owned_root_word e) (map owned_root_word entries) refl (owned_start asked mark entries)
 
 below_mark : (k mark : ℕ) → k < mark → nat_lt k mark ≡ true
 below_mark k mark below = lt-ltb k mark below
@@ -104,19 +104,19 @@ past_mark k mark past = grind (arith, nat_tests, past)
 
 scoped_start : (asked : Bool) (entries : List RootEntry) → AreStarts true asked (length entries) (scoped_words asked entries)
 scoped_start false entries = none_start true false (length entries)
-scoped_start true entries = numbered_start true true (length entries) scoped_root 0 (length entries) entries (λ k x over under. below_mark k (length entries) under) (omega arith)
+scoped_start true entries = numbered_start true true (length entries) scoped_root_word 0 (length entries) entries (λ k x over under. below_mark k (length entries) under) (omega arith)
 
 pub starts_start : {D : Type 0} (asked : Bool) (s : StoreView D) → AreStarts true asked (length s.scoped) (start_words asked s)
 starts_start asked s =
-    both_start true asked (length s.scoped) (numbered global_root 0 s.globals) (root_word name.Pending s.pending ∷ (slot_roots 0 s.frames ++ (map owned_root s.owned ++ scoped_words asked s.scoped)))
-    (numbered_start true asked (length s.scoped) global_root 0 (length s.globals) s.globals (λ k x over under. refl) (omega arith))
-    (more_start true asked (length s.scoped) (root_word name.Pending s.pending) (slot_roots 0 s.frames ++ (map owned_root s.owned ++ scoped_words asked s.scoped)) refl
-    (both_start true asked (length s.scoped) (slot_roots 0 s.frames) (map owned_root s.owned ++ scoped_words asked s.scoped) (frames_start asked (length s.scoped) 0 s.frames)
-    (both_start true asked (length s.scoped) (map owned_root s.owned) (scoped_words asked s.scoped) (owned_start asked (length s.scoped) s.owned) (scoped_start asked s.scoped))))
+    both_start true asked (length s.scoped) (with_numbers global_root_word 0 s.globals) (root_word name.Pending s.pending ∷ (slot_roots 0 s.frames ++ (map owned_root_word s.owned ++ scoped_words asked s.scoped)))
+    (numbered_start true asked (length s.scoped) global_root_word 0 (length s.globals) s.globals (λ k x over under. refl) (omega arith))
+    (more_start true asked (length s.scoped) (root_word name.Pending s.pending) (slot_roots 0 s.frames ++ (map owned_root_word s.owned ++ scoped_words asked s.scoped)) refl
+    (both_start true asked (length s.scoped) (slot_roots 0 s.frames) (map owned_root_word s.owned ++ scoped_words asked s.scoped) (frames_start asked (length s.scoped) 0 s.frames)
+    (both_start true asked (length s.scoped) (map owned_root_word s.owned) (scoped_words asked s.scoped) (owned_start asked (length s.scoped) s.owned) (scoped_start asked s.scoped))))
 
 rest_start : (asked : Bool) (scoped entries : List RootEntry) → AreStarts false asked (length scoped) (rest_words asked scoped entries)
-rest_start false scoped entries = numbered_start false false (length scoped) scoped_root 0 (0 + length (scoped ++ entries)) (scoped ++ entries) (λ k x over under. refl) (omega arith)
-rest_start true scoped entries = numbered_start false true (length scoped) scoped_root (length scoped) (length scoped + length entries) entries (λ k x over under. past_mark k (length scoped) over) (omega arith)
+rest_start false scoped entries = numbered_start false false (length scoped) scoped_root_word 0 (0 + length (scoped ++ entries)) (scoped ++ entries) (λ k x over under. refl) (omega arith)
+rest_start true scoped entries = numbered_start false true (length scoped) scoped_root_word (length scoped) (length scoped + length entries) entries (λ k x over under. past_mark k (length scoped) over) (omega arith)
 
 -- the elements of two lists one behind the other
 at_left : {X : Type 0} (xs ys : List X) (i : ℕ) → i < length xs → slice_get (xs ++ ys) i ≡ slice_get xs i
@@ -208,8 +208,8 @@ module _ {D : Type 0} (layouts : Layouts) (b : Basis D) (s : StoreView D) (there
     few = omega arith;
   }
 
-  pub roots_begin : (r : Parts) → r ≡ empty_parts → GoesOn layouts b [] 0 (sum_by word_count (take 0 words)) s r (TellsRoots b (take 0 words))
-  roots_begin r is = subst (λ (p : Parts). GoesOn layouts b [] 0 (sum_by word_count (take 0 words)) s p (TellsRoots b (take 0 words))) (sym is) (record {
+  pub roots_begin : (r : Parts) → r ≡ empty_parts → SearchGoesOn layouts b [] 0 (sum_by word_count (take 0 words)) s r (TellsRoots b (take 0 words))
+  roots_begin r is = subst (λ (p : Parts). SearchGoesOn layouts b [] 0 (sum_by word_count (take 0 words)) s p (TellsRoots b (take 0 words))) (sym is) (record {
     told = [];
     kept = keeps_itself [];
     progress = subst (λ (n : ℕ). Progress layouts b [] 0 n s empty_parts) (nothing words) progress_none;
@@ -230,8 +230,8 @@ module _ {D : Type 0} (layouts : Layouts) (b : Basis D) (s : StoreView D) (there
       let is : word_count (get_or words i w) ≡ word_count w = ap word_count (get_or_from_slice_get words i w w e) in
       omega (arith, more, is)
 
-  pub roots_more : (i : ℕ) (w : RootWord) → slice_get words i ≡ Some w → (now : StoreView D) (r : Parts) (goes : GoesOn layouts b [] 0 (sum_by word_count (take i words)) now r (TellsRoots b (take i words))) → (new : StoreView D) (after : Parts)
-      → GoesOn layouts b goes.told 0 (sum_by word_count (take i words) + word_count w) new after (TellsRoot b w) → GoesOn layouts b [] 0 (sum_by word_count (take (i + 1) words)) new after (TellsRoots b (take (i + 1) words))
+  pub roots_more : (i : ℕ) (w : RootWord) → slice_get words i ≡ Some w → (now : StoreView D) (r : Parts) (goes : SearchGoesOn layouts b [] 0 (sum_by word_count (take i words)) now r (TellsRoots b (take i words))) → (new : StoreView D) (after : Parts)
+      → SearchGoesOn layouts b goes.told 0 (sum_by word_count (take i words) + word_count w) new after (TellsRoot b w) → SearchGoesOn layouts b [] 0 (sum_by word_count (take (i + 1) words)) new after (TellsRoots b (take (i + 1) words))
   roots_more i w e now r goes new after next = record {
     told = next.told;
     kept = keeps_twice [] goes.told next.told goes.kept next.kept;
@@ -250,8 +250,8 @@ module _ {D : Type 0} (layouts : Layouts) (b : Basis D) (s : StoreView D) (there
             | inr other ↦ told_kept goes.told next.told p 0 next.kept (goes.done j v (take_at_below words i j v (omega (arith, under, other)) in_words) p placed)
           ]
 
-  pub roots_end : (i : ℕ) → i ≤ length words → length words ≤ i → (now : StoreView D) (r : Parts) → GoesOn layouts b [] 0 (sum_by word_count (take i words)) now r (TellsRoots b (take i words))
-      → GoesOn layouts b [] 0 (present_count (start_references b.scoped b.table)) now r (TellsStarts b)
+  pub roots_end : (i : ℕ) → i ≤ length words → length words ≤ i → (now : StoreView D) (r : Parts) → SearchGoesOn layouts b [] 0 (sum_by word_count (take i words)) now r (TellsRoots b (take i words))
+      → SearchGoesOn layouts b [] 0 (present_count (start_references b.scoped b.table)) now r (TellsStarts b)
   roots_end i under over now r goes = record {
     told = goes.told;
     kept = goes.kept;

@@ -18,7 +18,7 @@ use Rattle.gc_paths.specs.Walks.{Walk}
 use Rattle.gc_paths.specs.Reports.{Told, ComesFrom, IsEntry, positions}
 use Rattle.gc_paths.specs.Parts.{Parts, SameParts, MoreParts, Adds}
 use Rattle.gc_paths.specs.Taking.{path_entry}
-use Rattle.gc_paths.specs.Progress.{Basis, Tells, KnowsWord, Lists, Progress, Keeps, IsToldBy, GoesOn}
+use Rattle.gc_paths.specs.Progress.{Basis, TellsRightly, KnowsWord, Lists, Progress, KeepsTold, IsToldBy, SearchGoesOn}
 
 or_cases : (a b : Bool) → (a || b) ≡ true → (a ≡ true) ⊎ (b ≡ true)
 or_cases true b e = inl refl
@@ -32,17 +32,17 @@ or_right : (a b : Bool) → b ≡ true → (a || b) ≡ true
 or_right true b e = refl
 or_right false b e = e
 
-pub keeps_itself : (told : List Told) → Keeps told told
+pub keeps_itself : (told : List Told) → KeepsTold told told
 keeps_itself told i x e = e
 
-pub keeps_more : (told : List Told) (x : Told) → Keeps told (told ++ x ∷ [])
+pub keeps_more : (told : List Told) (x : Told) → KeepsTold told (told ++ x ∷ [])
 keeps_more told x i y e = slice_get-push_old told x i y e
 
-pub keeps_twice : (a b c : List Told) → Keeps a b → Keeps b c → Keeps a c
+pub keeps_twice : (a b c : List Told) → KeepsTold a b → KeepsTold b c → KeepsTold a c
 keeps_twice a b c first second i x e = second i x (first i x e)
 
 -- what is told stays told
-pub told_kept : (before now : List Told) (p bound : ℕ) → Keeps before now → IsToldBy before p bound → IsToldBy now p bound
+pub told_kept : (before now : List Told) (p bound : ℕ) → KeepsTold before now → IsToldBy before p bound → IsToldBy now p bound
 told_kept before now p bound keeps by = record { index = by.index; one = by.one; there = keeps by.index by.one by.there; position = by.position; short = by.short }
 
 -- what has a place in a longer list has it there
@@ -57,7 +57,7 @@ module _ {D : Type 0} (b : Basis D) (told : List Told) (x : Told) where
     names = comes.names;
   }
 
-module _ {D : Type 0} (b : Basis D) (told : List Told) (bound : ℕ) (tells : Tells b told bound) (x : Told) where
+module _ {D : Type 0} (b : Basis D) (told : List Told) (bound : ℕ) (tells : TellsRightly b told bound) (x : Told) where
   entry_kept : (i : ℕ) (y : Told) → IsEntry b.scoped b.table b.place told i y → IsEntry b.scoped b.table b.place (told ++ x ∷ []) i y
   entry_kept i y is = record { word = is.word; from = comes_kept b told x i y.position y.entry.length y.entry.parent is.from }
 
@@ -114,7 +114,7 @@ module _ {D : Type 0} (b : Basis D) (told : List Told) (bound : ℕ) (tells : Te
       | inr (at_end, same) ↦ let is : x.entry.length ≡ y.entry.length = ap (λ (w : Told). w.entry.length) same in omega (arith, level, is, low, at_end)
     ]
 
-    pub tells_more : Tells b (told ++ x ∷ []) bound
+    pub tells_more : TellsRightly b (told ++ x ∷ []) bound
     tells_more = record { each = each; walks = walks; distinct = distinct; rising = rising; within = within; short = short }
 
 module _ {D : Type 0} (layouts : Layouts) (b : Basis D) (told : List Told) (bound count : ℕ) (s : StoreView D) (old : Parts) (progress : Progress layouts b told bound count s old) where
@@ -169,7 +169,7 @@ module _ {D : Type 0} (layouts : Layouts) (b : Basis D) (told : List Told) (boun
 
   -- What has to be so of an object that may be told next: it has a walk of the length that is told, over what is told.
   module _ (p : ℕ) (h : GcRootIndex) (from : PathParent) (named : NamesReference s progress.holds.now h (at p)) (comes : ComesFrom b.scoped b.table told (length told) p bound from) (walk : Walk b.scoped b.table bound p) (low : bound ≤ length told) (room : length told < count) where
-    object_known : (word : ℕ) (new : Parts) → b.place p ≡ Some word → SameParts old new → old.knows word ≡ true → GoesOn layouts b told bound count s new (λ now. IsToldBy now p bound)
+    object_known : (word : ℕ) (new : Parts) → b.place p ≡ Some word → SameParts old new → old.knows word ≡ true → SearchGoesOn layouts b told bound count s new (λ now. IsToldBy now p bound)
     object_known word new placed same known =
         let knows = (progress.lists.known word).0 known in
         let there = (progress.tells.each knows.index knows.one knows.there).word ∙ ap Some knows.is in
@@ -186,7 +186,7 @@ module _ {D : Type 0} (layouts : Layouts) (b : Basis D) (told : List Told) (boun
           };
         }
 
-    object_new : (word : ℕ) (new : Parts) → b.place p ≡ Some word → MoreParts old new (path_entry word from bound) h → old.knows word ≡ false → GoesOn layouts b told bound count s new (λ now. IsToldBy now p bound)
+    object_new : (word : ℕ) (new : Parts) → b.place p ≡ Some word → MoreParts old new (path_entry word from bound) h → old.knows word ≡ false → SearchGoesOn layouts b told bound count s new (λ now. IsToldBy now p bound)
     object_new word new placed more unknown =
         let x : Told = record { position = p; entry = path_entry word from bound } in
         record {
@@ -204,13 +204,13 @@ module _ {D : Type 0} (layouts : Layouts) (b : Basis D) (told : List Told) (boun
         true_not_false : true ≡ false → ⊥
         true_not_false e = cc
 
-    pub object_taken : (word : ℕ) (new : Parts) → b.place p ≡ Some word → Adds old new (path_entry word from bound) h → GoesOn layouts b told bound count s new (λ now. IsToldBy now p bound)
+    pub object_taken : (word : ℕ) (new : Parts) → b.place p ≡ Some word → Adds old new (path_entry word from bound) h → SearchGoesOn layouts b told bound count s new (λ now. IsToldBy now p bound)
     object_taken word new placed adds = by (old.knows word) refl adds
       where
-        by : (k : Bool) → old.knows word ≡ k → MatchBool k (SameParts old new) (MoreParts old new (path_entry word from bound) h) → GoesOn layouts b told bound count s new (λ now. IsToldBy now p bound)
+        by : (k : Bool) → old.knows word ≡ k → MatchBool k (SameParts old new) (MoreParts old new (path_entry word from bound) h) → SearchGoesOn layouts b told bound count s new (λ now. IsToldBy now p bound)
         by true is same = object_known word new placed same is
         by false is more = object_new word new placed more is
 
   -- a 31-bit number is passed over
-  pub number_taken : (new : Parts) (Done : List Told → Type 0) → SameParts old new → Done told → GoesOn layouts b told bound count s new Done
+  pub number_taken : (new : Parts) (Done : List Told → Type 0) → SameParts old new → Done told → SearchGoesOn layouts b told bound count s new Done
   number_taken new Done same done = record { told = told; kept = keeps_itself told; progress = same_progress new same; done = done }

@@ -16,7 +16,7 @@ use Rattle.gc_paths.specs.declared.fault.PathFault.{PathFault}
 use Rattle.gc_paths.specs.declared.fault.PathFault.TheVariants as path_fault
 use Rattle.gc_paths.specs.Answers.{LacksRoots, present_count, held_count}
 use Rattle.gc_paths.specs.Parts.{Parts}
-use Rattle.gc_paths.specs.Progress.{Basis, Progress, GoesOn, AnswersPart, Keeps, TellsValue, TellsValues, value_count, values_count}
+use Rattle.gc_paths.specs.Progress.{Basis, Progress, SearchGoesOn, AnswersPart, KeepsTold, TellsValue, TellsValues, present_in_value, values_count}
 use Rattle.gc_paths.specs.Reports.{Told}
 use Rattle.gc_paths.specs.Steps.{IsReading}
 use Rattle.gc_paths.proofs.Growing.{grown_scoped, lacks_more}
@@ -27,8 +27,8 @@ references_counted : (vs : List Value) → present_count (flat_map value_referen
 references_counted [] = refl
 references_counted (v ∷ vs) =
     sum_by-append (λ r. cond (not (is_null r)) 1 0) (value_references v) (flat_map value_references vs)
-    ∙ ap (λ n. value_count v + n) (references_counted vs)
-    ∙ sym (sum_by-cons value_count v vs)
+    ∙ ap (λ n. present_in_value v + n) (references_counted vs)
+    ∙ sym (sum_by-cons present_in_value v vs)
 
 pub values_held : {D : Type 0} (o : Object D) → values_count (object_values o) ≡ held_count (Some o)
 values_held o = sym (references_counted (object_values o))
@@ -51,11 +51,11 @@ entry_there layouts b told bound count s r progress number x there e is =
     some_entry : slice_get told number ≡ Some x → option_map (λ (y : Told). y.entry) (slice_get told number) ≡ Some x.entry
     some_entry h = ap (λ o. option_map (λ (y : Told). y.entry) o) h
 
-pub reading_kept : {D : Type 0} (b : Basis D) (before now : List Told) (bound number : ℕ) (o : Object D) → Keeps before now → IsReading b before bound number o → IsReading b now bound number o
+pub reading_kept : {D : Type 0} (b : Basis D) (before now : List Told) (bound number : ℕ) (o : Object D) → KeepsTold before now → IsReading b before bound number o → IsReading b now bound number o
 reading_kept b before now bound number o keeps is = record { one = is.one; there = keeps number is.one is.there; next = is.next; object_is = is.object_is }
 
 module _ {D : Type 0} (layouts : Layouts) (b : Basis D) (told : List Told) (bound count : ℕ) (vs : List Value) where
-  pub values_begin : (s : StoreView D) (r : Parts) → Progress layouts b told bound count s r → GoesOn layouts b told bound (count + values_count (take 0 vs)) s r (TellsValues bound 0 vs)
+  pub values_begin : (s : StoreView D) (r : Parts) → Progress layouts b told bound count s r → SearchGoesOn layouts b told bound (count + values_count (take 0 vs)) s r (TellsValues bound 0 vs)
   values_begin s r progress = record {
     told = told;
     kept = keeps_itself told;
@@ -67,15 +67,15 @@ module _ {D : Type 0} (layouts : Layouts) (b : Basis D) (told : List Told) (boun
       none [] = omega arith
       none (x ∷ xs) = omega arith
 
-  count_more : (i : ℕ) (v : Value) → slice_get vs i ≡ Some v → (count + values_count (take i vs)) + value_count v ≡ count + values_count (take (i + 1) vs)
+  count_more : (i : ℕ) (v : Value) → slice_get vs i ≡ Some v → (count + values_count (take i vs)) + present_in_value v ≡ count + values_count (take (i + 1) vs)
   count_more i v e =
-      let more = sum_by_more value_count vs i v (slice_get_within vs i v e) in
-      let is : value_count (get_or vs i v) ≡ value_count v = ap value_count (get_or_from_slice_get vs i v v e) in
+      let more = sum_by_more present_in_value vs i v (slice_get_within vs i v e) in
+      let is : present_in_value (get_or vs i v) ≡ present_in_value v = ap present_in_value (get_or_from_slice_get vs i v v e) in
       omega (arith, more, is)
 
-  pub values_more : (i : ℕ) (v : Value) → slice_get vs i ≡ Some v → (s : StoreView D) (r : Parts) (goes : GoesOn layouts b told bound (count + values_count (take i vs)) s r (TellsValues bound i vs))
-      → (new : StoreView D) (after : Parts) → GoesOn layouts b goes.told bound ((count + values_count (take i vs)) + value_count v) new after (TellsValue bound v)
-      → GoesOn layouts b told bound (count + values_count (take (i + 1) vs)) new after (TellsValues bound (i + 1) vs)
+  pub values_more : (i : ℕ) (v : Value) → slice_get vs i ≡ Some v → (s : StoreView D) (r : Parts) (goes : SearchGoesOn layouts b told bound (count + values_count (take i vs)) s r (TellsValues bound i vs))
+      → (new : StoreView D) (after : Parts) → SearchGoesOn layouts b goes.told bound ((count + values_count (take i vs)) + present_in_value v) new after (TellsValue bound v)
+      → SearchGoesOn layouts b told bound (count + values_count (take (i + 1) vs)) new after (TellsValues bound (i + 1) vs)
   values_more i v e s r goes new after next = record {
     told = next.told;
     kept = keeps_twice told goes.told next.told goes.kept next.kept;
@@ -91,18 +91,18 @@ module _ {D : Type 0} (layouts : Layouts) (b : Basis D) (told : List Told) (boun
         | inr other ↦ told_kept goes.told next.told p bound next.kept (goes.done j w (omega (arith, below, other)) at_j p c)
       ]
 
-  pub values_end : (i : ℕ) → i ≡ length vs → (s : StoreView D) (r : Parts) → GoesOn layouts b told bound (count + values_count (take i vs)) s r (TellsValues bound i vs) → GoesOn layouts b told bound (count + values_count vs) s r (TellsValues bound (length vs) vs)
+  pub values_end : (i : ℕ) → i ≡ length vs → (s : StoreView D) (r : Parts) → SearchGoesOn layouts b told bound (count + values_count (take i vs)) s r (TellsValues bound i vs) → SearchGoesOn layouts b told bound (count + values_count vs) s r (TellsValues bound (length vs) vs)
   values_end i all s r goes =
-      subst (λ (xs : List Value). GoesOn layouts b told bound (count + values_count xs) s r (TellsValues bound (length vs) vs)) (take_all i vs (omega (arith, all)))
-      (subst (λ (n : ℕ). GoesOn layouts b told bound (count + values_count (take i vs)) s r (TellsValues bound n vs)) all goes)
+      subst (λ (xs : List Value). SearchGoesOn layouts b told bound (count + values_count xs) s r (TellsValues bound (length vs) vs)) (take_all i vs (omega (arith, all)))
+      (subst (λ (n : ℕ). SearchGoesOn layouts b told bound (count + values_count (take i vs)) s r (TellsValues bound n vs)) all goes)
 
-  pub values_refused : (i : ℕ) (v : Value) → slice_get vs i ≡ Some v → (why : PathFault) (Went More : Type 0) (s : StoreView D) → AnswersPart layouts b Went (LacksRoots b.table ((count + values_count (take i vs)) + value_count v)) (Err why) s
+  pub values_refused : (i : ℕ) (v : Value) → slice_get vs i ≡ Some v → (why : PathFault) (Went More : Type 0) (s : StoreView D) → AnswersPart layouts b Went (LacksRoots b.table ((count + values_count (take i vs)) + present_in_value v)) (Err why) s
       → AnswersPart layouts b More (LacksRoots b.table (count + values_count vs)) (Err why) s
   values_refused i v e path_fault.WrongStore Went More s never = never
   values_refused i v e path_fault.Unrooted Went More s never = never
   values_refused i v e path_fault.NoObject Went More s never = never
   values_refused i v e path_fault.RootsFull Went More s full =
       let more = count_more i v e in
-      let part = sum_by-take-le value_count vs (i + 1) in
-      (lacks_more b.table ((count + values_count (take i vs)) + value_count v) (count + values_count vs) (omega (arith, more, part)) full.0, full.1)
+      let part = sum_by-take-le present_in_value vs (i + 1) in
+      (lacks_more b.table ((count + values_count (take i vs)) + present_in_value v) (count + values_count vs) (omega (arith, more, part)) full.0, full.1)
   values_refused i v e path_fault.Memory Went More s stopped = stopped

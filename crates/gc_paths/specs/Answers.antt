@@ -13,7 +13,7 @@ use Rattle.gc_paths.specs.declared.entry.PathEntry.{PathEntry}
 use Rattle.gc_paths.specs.declared.fault.PathFault.{PathFault}
 use Rattle.gc_paths.specs.declared.fault.PathFault.TheVariants as fault
 use Rattle.gc_paths.specs.Walks.{start_references, IsWalked}
-use Rattle.gc_paths.specs.Reports.{Told, entries, IsReport}
+use Rattle.gc_paths.specs.Reports.{Told, told_entries, IsReport}
 
 -- how many references aren't null
 abbrev pub present_count : List Reference → ℕ
@@ -49,7 +49,7 @@ pub record OnlyPushed {D : Type 0} (layouts : Layouts) (t : Table D) (place : Pl
 -- the entries are those of a report, for which there is room
 pub record Reports {D : Type 0} (scoped : Bool) (t : Table D) (place : Placing) (result : List PathEntry) : Type 0 where
   pub told : List Told
-  pub result_is : result ≡ entries told
+  pub result_is : result ≡ told_entries told
   pub report : IsReport scoped t place told
   pub count : ℕ
   pub needs : NeedsRoots scoped t count

@@ -8,12 +8,12 @@ use Rattle.gc_store.specs.Roots.{NamesReference}
 use Rattle.gc_paths.specs.declared.search.Found.{Found}
 use Rattle.gc_paths.specs.Answers.{NeedsRoots, LacksRoots}
 use Rattle.gc_paths.specs.Progress.{Basis, HoldsGrown}
-use Rattle.gc_paths.specs.Reports.{Told, entries, IsReport}
+use Rattle.gc_paths.specs.Reports.{Told, told_entries, IsReport}
 
 -- the entries are those of a report, and beside each stands the handle of a root that names its object
 pub record FoundAll {D : Type 0} (layouts : Layouts) (b : Basis D) (s : StoreView D) (found : Found) : Type 0 where
   pub told : List Told
-  pub entries_are : found.entries.items ≡ entries told
+  pub entries_are : found.entries.items ≡ told_entries told
   pub report : IsReport b.scoped b.table b.place told
   pub count : ℕ
   pub needs : NeedsRoots b.scoped b.table count

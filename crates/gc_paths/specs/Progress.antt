@@ -14,8 +14,8 @@ use Rattle.gc_store.specs.OwnedWords.{HoldsThere}
 use Rattle.gc_store.specs.Roots.{NamesReference}
 use Rattle.gc_paths.specs.declared.fault.PathFault.{PathFault}
 use Rattle.gc_paths.specs.declared.fault.PathFault.TheVariants as fault
-use Rattle.gc_paths.specs.Walks.{Root, start_roots, ValueNames, Walk, IsWalked}
-use Rattle.gc_paths.specs.Reports.{Told, positions, entries, IsEntry}
+use Rattle.gc_paths.specs.Walks.{StartRoot, start_roots, ValueNames, Walk, IsWalked}
+use Rattle.gc_paths.specs.Reports.{Told, positions, told_entries, IsEntry}
 use Rattle.gc_paths.specs.Answers.{present_count, held_count, LacksRoots}
 use Rattle.gc_paths.specs.Parts.{Parts}
 
@@ -42,7 +42,7 @@ pub record HoldsGrown {D : Type 0} (layouts : Layouts) (b : Basis D) (count : �
   pub there : HoldsThere layouts s now b.place b.account
 
 -- What is told is right, each object once, by rising length up to a bound.
-pub record Tells {D : Type 0} (b : Basis D) (told : List Told) (bound : ℕ) : Type 0 where
+pub record TellsRightly {D : Type 0} (b : Basis D) (told : List Told) (bound : ℕ) : Type 0 where
   pub each : (i : ℕ) (x : Told) → slice_get told i ≡ Some x → IsEntry b.scoped b.table b.place told i x
   pub walks : (i : ℕ) (x : Told) → slice_get told i ≡ Some x → Walk b.scoped b.table x.entry.length x.position
   pub distinct : IsDistinct nat_eq (positions told)
@@ -59,7 +59,7 @@ pub record KnowsWord (told : List Told) (word : ℕ) : Type 0 where
 
 -- the report has this told, with the handle of each object
 pub record Lists {D : Type 0} (s : StoreView D) (now : Table D) (told : List Told) (r : Parts) : Type 0 where
-  pub entries_are : r.entries ≡ entries told
+  pub entries_are : r.entries ≡ told_entries told
   pub same_count : length r.handles ≡ length told
   pub named : (i : ℕ) (x : Told) (h : GcRootIndex) → slice_get told i ≡ Some x → slice_get r.handles i ≡ Some h → NamesReference s now h (at x.position)
   pub known : (word : ℕ) → (r.knows word ≡ true) ↔ KnowsWord told word
@@ -68,12 +68,12 @@ pub record Lists {D : Type 0} (s : StoreView D) (now : Table D) (told : List Tol
 pub record Progress {D : Type 0} (layouts : Layouts) (b : Basis D) (told : List Told) (bound count : ℕ) (s : StoreView D) (r : Parts) : Type 0 where
   pub holds : HoldsGrown layouts b count s
   pub lists : Lists s holds.now told r
-  pub tells : Tells b told bound
+  pub tells : TellsRightly b told bound
   pub few : length told ≤ count
 
 -- what was told is told, at its place
-abbrev pub Keeps : List Told → List Told → Type 0
-Keeps before now = (i : ℕ) (x : Told) → slice_get before i ≡ Some x → slice_get now i ≡ Some x
+abbrev pub KeepsTold : List Told → List Told → Type 0
+KeepsTold before now = (i : ℕ) (x : Told) → slice_get before i ≡ Some x → slice_get now i ≡ Some x
 
 -- an object is told with a walk of at most that length
 pub record IsToldBy (told : List Told) (p bound : ℕ) : Type 0 where
@@ -84,15 +84,15 @@ pub record IsToldBy (told : List Told) (p bound : ℕ) : Type 0 where
   pub short : one.entry.length ≤ bound
 
 -- the search went on, and did what it was to do
-pub record GoesOn {D : Type 0} (layouts : Layouts) (b : Basis D) (before : List Told) (bound count : ℕ) (s : StoreView D) (r : Parts) (Done : List Told → Type 0) : Type 0 where
+pub record SearchGoesOn {D : Type 0} (layouts : Layouts) (b : Basis D) (before : List Told) (bound count : ℕ) (s : StoreView D) (r : Parts) (Done : List Told → Type 0) : Type 0 where
   pub told : List Told
-  pub kept : Keeps before told
+  pub kept : KeepsTold before told
   pub progress : Progress layouts b told bound count s r
   pub done : Done told
 
 -- a search that was refused has pushed some roots
-abbrev pub Stopped : {D : Type 0} → Layouts → Basis D → StoreView D → Type 0
-Stopped layouts b s = (count : ℕ) × HoldsGrown layouts b count s
+abbrev pub StoppedSearch : {D : Type 0} → Layouts → Basis D → StoreView D → Type 0
+StoppedSearch layouts b s = (count : ℕ) × HoldsGrown layouts b count s
 
 -- What a part of the search answers: that it did its part, or why not, where it would push so many roots in all.
 abbrev pub AnswersPart : {D : Type 0} → Layouts → Basis D → Type 0 → Type 0 → Result (Unit {0}) PathFault → StoreView D → Type 0
@@ -100,12 +100,12 @@ AnswersPart layouts b Went Full (Ok done) s = Went
 AnswersPart layouts b Went Full (Err fault.WrongStore) s = ⊥
 AnswersPart layouts b Went Full (Err fault.Unrooted) s = ⊥
 AnswersPart layouts b Went Full (Err fault.NoObject) s = ⊥
-AnswersPart layouts b Went Full (Err fault.RootsFull) s = Full × Stopped layouts b s
-AnswersPart layouts b Went Full (Err fault.Memory) s = Stopped layouts b s
+AnswersPart layouts b Went Full (Err fault.RootsFull) s = Full × StoppedSearch layouts b s
+AnswersPart layouts b Went Full (Err fault.Memory) s = StoppedSearch layouts b s
 
 -- how many of a value's references aren't null: it is one that isn't, or there is none
-abbrev pub value_count : Value → ℕ
-value_count v = present_count (value_references v)
+abbrev pub present_in_value : Value → ℕ
+present_in_value v = present_count (value_references v)
 
 -- the object that a value names is told
 abbrev pub TellsValue : ℕ → Value → List Told → Type 0
@@ -117,7 +117,7 @@ TellsValues bound count values told = (i : ℕ) (v : Value) → i < count → sl
 
 -- how many references aren't null among values
 abbrev pub values_count : List Value → ℕ
-values_count values = sum_by value_count values
+values_count values = sum_by present_in_value values
 
 -- one for a root word that isn't null
 abbrev pub word_count : RootWord → ℕ
@@ -125,7 +125,7 @@ word_count w = if w.word == 0 then 0 else 1
 
 -- the root word is that of a root from which walks begin, where it isn't null
 abbrev pub IsStartWord : {D : Type 0} → Basis D → RootWord → Type 0
-IsStartWord b w = 0 < w.word → (r : Root) × (Contains (start_roots b.scoped b.table) r × ((r.name ≡ w.name) × IsWord b.place r.reference w.word))
+IsStartWord b w = 0 < w.word → (r : StartRoot) × (Contains (start_roots b.scoped b.table) r × ((r.name ≡ w.name) × IsWord b.place r.reference w.word))
 
 -- the object that a root word names is told
 abbrev pub TellsRoot : {D : Type 0} → Basis D → RootWord → List Told → Type 0
@@ -133,7 +133,7 @@ TellsRoot b w told = (p : ℕ) → b.place p ≡ Some w.word → IsToldBy told p
 
 -- each object that a root names is told, at length 0
 abbrev pub TellsStarts : {D : Type 0} → Basis D → List Told → Type 0
-TellsStarts b told = (r : Root) (p : ℕ) → Contains (start_roots b.scoped b.table) r → r.reference ≡ at p → IsToldBy told p 0
+TellsStarts b told = (r : StartRoot) (p : ℕ) → Contains (start_roots b.scoped b.table) r → r.reference ≡ at p → IsToldBy told p 0
 
 -- the objects that a told object names are told
 abbrev pub TellsNamed : {D : Type 0} → Basis D → ℕ → List Told → Type 0
@@ -142,7 +142,7 @@ TellsNamed b count told = (i : ℕ) (x : Told) (index p : ℕ) → i < count →
 -- The search is at its end: each object that a told one names is told, and a root was pushed for each reference.
 pub record Ended {D : Type 0} (layouts : Layouts) (b : Basis D) (before : List Told) (count : ℕ) (s : StoreView D) (r : Parts) : Type 0 where
   pub told : List Told
-  pub kept : Keeps before told
+  pub kept : KeepsTold before told
   pub bound : ℕ
   pub total : ℕ
   pub progress : Progress layouts b told bound total s r

@@ -8,7 +8,7 @@ use Rattle.gc_model.specs.Words.{Placing}
 use Rattle.gc_paths.specs.declared.entry.PathEntry.{PathEntry}
 use Rattle.gc_paths.specs.declared.entry.PathParent.{PathParent}
 use Rattle.gc_paths.specs.declared.entry.PathParent.TheVariants as parent
-use Rattle.gc_paths.specs.Walks.{root, start_roots, ValueNames, IsWalked, IsLeast}
+use Rattle.gc_paths.specs.Walks.{start_root, start_roots, ValueNames, IsWalked, IsLeast}
 
 -- an entry, with the position of the object that it tells of
 pub record Told : Type 0 where
@@ -25,7 +25,7 @@ pub record IsParent {D : Type 0} (t : Table D) (told : List Told) (i p length nu
 
 -- where the walk to an entry's object comes from: at length 0 from a root that names it, else from another entry
 abbrev pub ComesFrom : {D : Type 0} → Bool → Table D → List Told → ℕ → ℕ → ℕ → PathParent → Type 0
-ComesFrom scoped t told i p length (parent.FromRoot name) = (length ≡ 0) × Contains (start_roots scoped t) (root name (at p))
+ComesFrom scoped t told i p length (parent.FromRoot name) = (length ≡ 0) × Contains (start_roots scoped t) (start_root name (at p))
 ComesFrom scoped t told i p length (parent.FromEntry number index) = IsParent t told i p length number index
 
 -- an entry has its object's word, and tells where the walk comes from
@@ -36,8 +36,8 @@ pub record IsEntry {D : Type 0} (scoped : Bool) (t : Table D) (place : Placing) 
 abbrev pub positions : List Told → List ℕ
 positions told = map (λ (x : Told). x.position) told
 
-abbrev pub entries : List Told → List PathEntry
-entries told = map (λ (x : Told). x.entry) told
+abbrev pub told_entries : List Told → List PathEntry
+told_entries told = map (λ (x : Told). x.entry) told
 
 -- Each object to which there is a walk is told once, and no other; lengths rise, and each is the least of a walk.
 pub record IsReport {D : Type 0} (scoped : Bool) (t : Table D) (place : Placing) (told : List Told) : Type 0 where

@@ -5,7 +5,7 @@ use Rattle.gc_model.specs.Stores.{StoreView}
 use Rattle.gc_store.specs.declared.root_words.RootName.{RootName}
 use Rattle.gc_store.specs.declared.root_words.RootName.TheVariants as name
 use Rattle.gc_store.specs.declared.root_words.RootWord.{RootWord}
-use Rattle.gc_store.specs.RootWords.{numbered, root_word, global_root, slot_roots, owned_root, scoped_root}
+use Rattle.gc_store.specs.RootWords.{with_numbers, root_word, global_root_word, slot_roots, owned_root_word, scoped_root_word}
 
 -- whether walks begin from a root of that name, where so many scoped roots stand
 abbrev pub is_start_name : Bool → ℕ → RootName → Bool

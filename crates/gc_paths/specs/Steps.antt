@@ -32,7 +32,7 @@ pub record CanTakeValue (D : Type 0) (layouts : Layouts) (s : StoreView D) (r : 
   pub value_at : slice_get (object_values can.object) index ≡ Some value
 
 -- a search has begun
-pub record IsBegun (D : Type 0) (layouts : Layouts) (s : StoreView D) (r : Parts) : Type 0 where
+pub record IsSearchBegun (D : Type 0) (layouts : Layouts) (s : StoreView D) (r : Parts) : Type 0 where
   pub basis : Basis D
   pub told : List Told
   pub count : ℕ

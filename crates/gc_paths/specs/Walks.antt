@@ -7,53 +7,53 @@ use Rattle.gc_model.specs.Reach.{object_values}
 use Rattle.gc_model.specs.Table.{Table, Slot, Owned, Scoped}
 use Rattle.gc_store.specs.declared.root_words.RootName.{RootName}
 use Rattle.gc_store.specs.declared.root_words.RootName.TheVariants as name
-use Rattle.gc_store.specs.RootWords.{numbered}
+use Rattle.gc_store.specs.RootWords.{with_numbers}
 use Rattle.gc_values.specs.Words.{owned_id}
 
 -- a root of a table: which one it is, and what it names
-pub record Root : Type 0 where
+pub record StartRoot : Type 0 where
   pub name : RootName
   pub reference : Reference
 
-abbrev pub root : RootName → Reference → Root
-root n r = record { name = n; reference = r }
+abbrev pub start_root : RootName → Reference → StartRoot
+start_root n r = record { name = n; reference = r }
 
-abbrev pub global_root : ℕ → Slot → Root
-global_root index slot = root (name.Global index) slot.reference
+abbrev pub global_root : ℕ → Slot → StartRoot
+global_root index slot = start_root (name.Global index) slot.reference
 
-abbrev pub pending_roots : Option Reference → List Root
+abbrev pub pending_roots : Option Reference → List StartRoot
 pending_roots None = []
-pending_roots (Some r) = root name.Pending r ∷ []
+pending_roots (Some r) = start_root name.Pending r ∷ []
 
-abbrev pub slot_root : ℕ → ℕ → Slot → Root
-slot_root frame index slot = root (name.Slot frame index) slot.reference
+abbrev pub slot_root : ℕ → ℕ → Slot → StartRoot
+slot_root frame index slot = start_root (name.Slot frame index) slot.reference
 
 -- the slots of frames, of which the first has that number
-abbrev pub frame_roots : ℕ → List (List Slot) → List Root
+abbrev pub frame_roots : ℕ → List (List Slot) → List StartRoot
 frame_roots from [] = []
-frame_roots from (slots ∷ frames) = numbered (slot_root from) 0 slots ++ frame_roots (from + 1) frames
+frame_roots from (slots ∷ frames) = with_numbers (slot_root from) 0 slots ++ frame_roots (from + 1) frames
 
-abbrev pub owned_root : Owned → Root
-owned_root entry = root (name.Owned (owned_id entry.number)) entry.reference
+abbrev pub owned_root : Owned → StartRoot
+owned_root entry = start_root (name.Owned (owned_id entry.number)) entry.reference
 
-abbrev pub scoped_root : ℕ → Scoped → Root
-scoped_root index entry = root (name.Scoped index) entry.reference
+abbrev pub scoped_root : ℕ → Scoped → StartRoot
+scoped_root index entry = start_root (name.Scoped index) entry.reference
 
 -- the scoped roots, where they are asked for
-abbrev pub scoped_roots : Bool → List Scoped → List Root
+abbrev pub scoped_roots : Bool → List Scoped → List StartRoot
 scoped_roots false roots = []
-scoped_roots true roots = numbered scoped_root 0 roots
+scoped_roots true roots = with_numbers scoped_root 0 roots
 
 -- The roots from which walks begin, in the order of root words: the globals, what is pending, the slots of the frames, the
 -- owned roots, of which each has handles, and the scoped roots where they are asked for.
-abbrev pub start_roots : {D : Type 0} → Bool → Table D → List Root
+abbrev pub start_roots : {D : Type 0} → Bool → Table D → List StartRoot
 start_roots scoped t =
-    numbered global_root 0 t.globals
+    with_numbers global_root 0 t.globals
     ++ (pending_roots t.pending ++ (frame_roots 0 t.frames ++ (map owned_root t.owned ++ scoped_roots scoped t.scoped)))
 
 -- what they name
 abbrev pub start_references : {D : Type 0} → Bool → Table D → List Reference
-start_references scoped t = map (λ (r : Root). r.reference) (start_roots scoped t)
+start_references scoped t = map (λ (r : StartRoot). r.reference) (start_roots scoped t)
 
 -- the value of that index of the object at one position names another position
 pub record ValueNames {D : Type 0} (objects : List (Object D)) (holder index p : ℕ) : Type 0 where
@@ -65,7 +65,7 @@ pub record ValueNames {D : Type 0} (objects : List (Object D)) (holder index p :
 -- A walk of that length to a position: a root that names it, or a walk that is one shorter to an object and a value of that
 -- object that names it.
 pub data Walk {D : Type 0} (scoped : Bool) (t : Table D) : ℕ → ℕ → Type 0 where
-  from_root : {p : ℕ} (n : RootName) → Contains (start_roots scoped t) (root n (at p)) → Walk scoped t zero p
+  from_root : {p : ℕ} (n : RootName) → Contains (start_roots scoped t) (start_root n (at p)) → Walk scoped t zero p
   from_object : {length q p : ℕ} (index : ℕ) → Walk scoped t length q → ValueNames t.objects q index p → Walk scoped t (suc length) p
 
 -- there is a walk to a position

@@ -8,7 +8,7 @@ ghost use Rattle.gc_store.specs.Stores.{IsSameStore};
 ghost use Rattle.gc_store.specs.declared.root_words.RootWord.{RootWord};
 ghost use Rattle.gc_paths.specs.Answers.{LacksRoots, present_count};
 ghost use Rattle.gc_paths.specs.Parts.{parts, empty_parts};
-ghost use Rattle.gc_paths.specs.Progress.{AnswersPart, Basis, GoesOn, IsStartWord, Progress, TellsRoot, TellsStarts, word_count};
+ghost use Rattle.gc_paths.specs.Progress.{AnswersPart, Basis, SearchGoesOn, IsStartWord, Progress, TellsRoot, TellsStarts, word_count};
 ghost use Rattle.gc_paths.specs.Reports.{Told};
 ghost use Rattle.gc_paths.specs.StartWords.{is_start_name};
 ghost use Rattle.gc_paths.specs.Walks.{start_references};
@@ -42,7 +42,7 @@ fn take_root<H: GcHeap, D: Drop>(
 ) -> Result<(), PathFault>
     ensures takes { (b : Basis D) (told : List Told) (count : ℕ) (w : RootWord) → Progress H.KIND b told 0 count store.old (parts report.old)
         → slice_get (root_words store.old) number ≡ Some w → IsStartWord b w
-        → AnswersPart H.KIND b (GoesOn H.KIND b told 0 (count + word_count w) store.new (parts report.new) (TellsRoot b w))
+        → AnswersPart H.KIND b (SearchGoesOn H.KIND b told 0 (count + word_count w) store.new (parts report.new) (TellsRoot b w))
         (LacksRoots b.table (count + word_count w)) result store.new }
     ensures adds { OnOk result (OnlyAdds store.old store.new) }
     ensures same { IsSameStore store.old store.new }
@@ -66,7 +66,7 @@ pub(crate) fn take_roots<H: GcHeap, D: Drop>(
 ) -> Result<(), PathFault>
     requires { parts report.old ≡ empty_parts }
     ensures takes { (b : Basis D) → b.scoped ≡ scoped → HoldsThere H.KIND store.old b.table b.place b.account
-        → AnswersPart H.KIND b (GoesOn H.KIND b [] 0 (present_count (start_references b.scoped b.table)) store.new (parts report.new) (TellsStarts b))
+        → AnswersPart H.KIND b (SearchGoesOn H.KIND b [] 0 (present_count (start_references b.scoped b.table)) store.new (parts report.new) (TellsStarts b))
         (LacksRoots b.table (present_count (start_references b.scoped b.table))) result store.new }
     ensures same { IsSameStore store.old store.new }
 {

@@ -9,9 +9,9 @@ ghost use Rattle.gc_store.specs.Stores.{IsSameStore};
 ghost use Rattle.gc_paths.specs.Answers.{OnlyPushed, RefusesPaths, Reports};
 ghost use Rattle.gc_paths.specs.Left.{FoundAll};
 ghost use Rattle.gc_paths.specs.Parts.{parts};
-ghost use Rattle.gc_paths.specs.Progress.{AnswersPart, Basis, Ended, PassesRoom, Progress, Stopped};
+ghost use Rattle.gc_paths.specs.Progress.{AnswersPart, Basis, Ended, PassesRoom, Progress, StoppedSearch};
 ghost use Rattle.gc_paths.specs.Reports.{Told};
-ghost use Rattle.gc_paths.specs.Steps.{IsBegun};
+ghost use Rattle.gc_paths.specs.Steps.{IsSearchBegun};
 
 use crate::entry::PathEntry;
 use crate::fault::PathFault;
@@ -28,7 +28,7 @@ fn take_objects<H: GcHeap, D: Drop>(
     store: &mut Store<H, D>,
     report: &mut Report,
 ) -> Result<(), PathFault>
-    requires { IsBegun D H.KIND store.old (parts report.old) }
+    requires { IsSearchBegun D H.KIND store.old (parts report.old) }
     ensures takes { (b : Basis D) (told : List Told) (count : ℕ) → Progress H.KIND b told 0 count store.old (parts report.old)
         → AnswersPart H.KIND b (Ended H.KIND b told count store.new (parts report.new)) (PassesRoom b count) result store.new }
     ensures same { IsSameStore store.old store.new }
@@ -58,7 +58,7 @@ pub fn find_paths<H: GcHeap, D: Drop>(
 ) -> Result<Found, PathFault>
     ensures finds { (b : Basis D) → b.scoped ≡ scoped → HoldsThere H.KIND store.old b.table b.place b.account
         → MatchResult result (FoundAll H.KIND b store.new) (RefusesPaths b.scoped b.table) }
-    ensures stopped { (b : Basis D) → b.scoped ≡ scoped → HoldsThere H.KIND store.old b.table b.place b.account → Stopped H.KIND b store.new }
+    ensures stopped { (b : Basis D) → b.scoped ≡ scoped → HoldsThere H.KIND store.old b.table b.place b.account → StoppedSearch H.KIND b store.new }
     ensures same { IsSameStore store.old store.new }
 {
     stores_hold_tables(store);

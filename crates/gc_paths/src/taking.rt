@@ -6,7 +6,7 @@ ghost use Rattle.gc_model.specs.Table.{Table};
 ghost use Rattle.gc_model.specs.Values.{Reference};
 ghost use Rattle.gc_store.specs.Roots.{NamesReference};
 ghost use Rattle.gc_store.specs.Values.{IsLive};
-ghost use Rattle.gc_paths.specs.Faults.{refused};
+ghost use Rattle.gc_paths.specs.Faults.{search_fault};
 ghost use Rattle.gc_paths.specs.Parts.{parts};
 ghost use Rattle.gc_paths.specs.Taking.{TakesReference};
 
@@ -18,7 +18,7 @@ use gc_store::{GcRootIndex, RootFault, Store};
 
 /// A store's refusal as one of these calls.
 pub(crate) fn refused(fault: RootFault) -> PathFault
-    ensures { result ≡ refused fault }
+    ensures { result ≡ search_fault fault }
 {
     match fault {
         RootFault::WrongStore => PathFault::WrongStore,

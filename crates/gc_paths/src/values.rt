@@ -11,7 +11,7 @@ ghost use Rattle.gc_store.specs.Values.{IsLive};
 ghost use Rattle.gc_paths.specs.Answers.{LacksRoots};
 ghost use Rattle.gc_paths.specs.Objects.{CountsFields, CountsIn};
 ghost use Rattle.gc_paths.specs.Parts.{parts};
-ghost use Rattle.gc_paths.specs.Progress.{AnswersPart, Basis, GoesOn, Progress, TellsValue, TellsValues, value_count, values_count};
+ghost use Rattle.gc_paths.specs.Progress.{AnswersPart, Basis, SearchGoesOn, Progress, TellsValue, TellsValues, present_in_value, values_count};
 ghost use Rattle.gc_paths.specs.Reports.{Told};
 ghost use Rattle.gc_paths.specs.Steps.{CanTake, CanTakeValue, IsReading};
 
@@ -37,7 +37,7 @@ fn count_fields<H: GcHeap, D: Drop>(store: &Store<H, D>, ty: VMSharedTypeIndex) 
 }
 
 /// How many values an object has.
-pub fn count_in<H: GcHeap, D: Drop>(store: &Store<H, D>, object: &RootedObject) -> u32
+pub fn count_values<H: GcHeap, D: Drop>(store: &Store<H, D>, object: &RootedObject) -> u32
     ensures { CountsIn store.now.types object.now result }
 {
     match object {
@@ -50,13 +50,13 @@ pub fn count_in<H: GcHeap, D: Drop>(store: &Store<H, D>, object: &RootedObject) 
 }
 
 /// How many values the object has that a handle names.
-fn count_values<H: GcHeap, D: Drop>(store: &Store<H, D>, handle: GcRootIndex) -> u32
+fn count_named_values<H: GcHeap, D: Drop>(store: &Store<H, D>, handle: GcRootIndex) -> u32
     requires { IsLive D H.KIND store.now handle }
     ensures { (t : Table D) (p : ℕ) (o : Object D) → HoldsTable H.KIND store.now t → NamesReference store.now t handle (at p)
         → slice_get t.objects p ≡ Some o → result ≡ length (object_values o) }
 {
     match &store.object(handle) {
-        Ok(object) => count_in(store, object),
+        Ok(object) => count_values(store, object),
         Err(_) => unreachable!(),
     }
 }
@@ -73,8 +73,8 @@ fn take_value<H: GcHeap, D: Drop>(
     ensures takes { (b : Basis D) (told : List Told) (bound count : ℕ) (o : Object D) (v : Value)
         → Progress H.KIND b told bound count store.old (parts report.old) → IsReading b told bound entry o → length ≡ bound
         → slice_get (object_values o) index ≡ Some v
-        → AnswersPart H.KIND b (GoesOn H.KIND b told bound (count + value_count v) store.new (parts report.new) (TellsValue bound v))
-        (LacksRoots b.table (count + value_count v)) result store.new }
+        → AnswersPart H.KIND b (SearchGoesOn H.KIND b told bound (count + present_in_value v) store.new (parts report.new) (TellsValue bound v))
+        (LacksRoots b.table (count + present_in_value v)) result store.new }
     ensures same { IsSameStore store.old store.new }
 {
     let handle = report.handles[entry as usize];
@@ -99,14 +99,14 @@ pub(crate) fn take_values<H: GcHeap, D: Drop>(
     requires { CanTake D H.KIND store.old (parts report.old) entry }
     ensures takes { (b : Basis D) (told : List Told) (bound count : ℕ) (o : Object D)
         → Progress H.KIND b told bound count store.old (parts report.old) → IsReading b told bound entry o
-        → AnswersPart H.KIND b (GoesOn H.KIND b told bound (count + values_count (object_values o)) store.new (parts report.new)
+        → AnswersPart H.KIND b (SearchGoesOn H.KIND b told bound (count + values_count (object_values o)) store.new (parts report.new)
         (TellsValues bound (length (object_values o)) (object_values o)))
         (LacksRoots b.table (count + values_count (object_values o))) result store.new }
     ensures same { IsSameStore store.old store.new }
 {
     let handle = report.handles[entry as usize];
     let length = report.entries[entry as usize].length + 1;
-    for index in 0..count_values(store, handle) {
+    for index in 0..count_named_values(store, handle) {
         take_value(store, report, entry, index, length)?;
     }
     Ok(())

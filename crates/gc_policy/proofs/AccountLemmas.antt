@@ -16,7 +16,7 @@ use Rattle.gc_model.specs.Gaps.{told, AreCut}
 use Rattle.gc_heap.specs.Content.{IsHeap, total, block_size}
 use Rattle.gc_heap.specs.Heap.{HasRoom}
 use Rattle.gc_policy.specs.Accounts.{Account, IsAccount, HoldsAccount}
-use Rattle.gc_policy.specs.Collects.{IsPlaced}
+use Rattle.gc_policy.specs.Collects.{HasPlace}
 use Rattle.gc_policy.specs.Policy.{PolicyState, policy_state, allocated_bytes, FitsNow, LacksNow, turned, CollectsTable}
 use Rattle.gc_owner.specs.Owners.{OwnerView, CanBegin, Trims, Collects, CollectsAll}
 use Rattle.gc_policy.specs.Shown.{shown}
@@ -35,7 +35,7 @@ pub holds_counted : {D : Type 0} (layouts : Layouts) (s : StoreView D) (t : Tabl
 holds_counted layouts s t place last tries holds = holds
 
 -- The bytes allocated in a heap are those of the positions it holds.
-pub allocated_is : {D : Type 0} (layouts : Layouts) (s : StoreView D) (t : Table D) (place : Placing) (held : List ℕ) → Holds layouts s t place → AreAll (IsPlaced place) held → IsHeap layouts s.heap
+pub allocated_is : {D : Type 0} (layouts : Layouts) (s : StoreView D) (t : Table D) (place : Placing) (held : List ℕ) → Holds layouts s t place → AreAll (HasPlace place) held → IsHeap layouts s.heap
     → s.heap.allocated ≡ allocated_bytes layouts t held
 allocated_is Null s t place held holds all heap = let next = holds.by_kind.allocated in omega arith
 allocated_is Counting s t place held holds all heap = heap.allocated ∙ sym (held_blocks Counting s t place holds held all)
@@ -92,7 +92,7 @@ run_account {D} layouts s t a limits v w holds can in_frames all_held was_heap a
     let held_before : CollectsHeld layouts s t holds.place v w = record { holds = holds.holds; can = can; in_frames = in_frames; all_held = all_held; was_heap = was_heap; attached = attached; collects = collects } in
     let kept : HoldsKept layouts (shown s w) t = collected_holds layouts s t holds.place v w held_before in
     let held : List ℕ = positions layouts t kept.0 w.heap kept.1.0.objects in
-    let placed : AreAll (IsPlaced kept.0) held = are_placed layouts t kept.0 w.heap kept.1.0.objects in
+    let placed : AreAll (HasPlace kept.0) held = are_placed layouts t kept.0 w.heap kept.1.0.objects in
     let account : Account = record { held = held; places = told layouts kept.0; last = w.heap.allocated; tries = a.tries; upper = w.heap.needs_gc } in
     record {
       after = policy_state t account limits;

@@ -15,7 +15,7 @@ use Rattle.gc_model.specs.Holds.{Placing, IsWord, naming, Holds}
 use Rattle.gc_model.proofs.Words.{word_names}
 use Rattle.gc_heap.specs.Content.{IsHeap}
 use Rattle.gc_heap.specs.References.{reference_offsets, references, word_in}
-use Rattle.gc_heap.specs.Collection.{Reached, by_root, by_field, Kept}
+use Rattle.gc_heap.specs.Collection.{ReachedPlace, by_root, by_field, Kept}
 use Rattle.gc_memory.proofs.ListLemmas.{contains_in, in_map}
 use Rattle.gc_owner.specs.Tracing.{IsTraced, AreTraced, start_from}
 use Rattle.gc_owner.specs.RootColumns.{roots_of}
@@ -44,7 +44,7 @@ module _ {D : Type 0} (layouts : Layouts) (s : StoreView D) (v : OwnerView D) (t
   traced_here word h got = subst (λ types. IsTraced layouts types h) holds.types (traced word h got)
 
   -- an object that the heap's roots reach is one that the table's roots reach
-  pub reached_position : IsHeap layouts v.heap → (word : ℕ) → Reached layouts (start_from v.types.declarations v.heap (roots_of v.roots) hosts) word → (p : ℕ) → place p ≡ Some word → IsReached t p
+  pub reached_position : IsHeap layouts v.heap → (word : ℕ) → ReachedPlace layouts (start_from v.types.declarations v.heap (roots_of v.roots) hosts) word → (p : ℕ) → place p ≡ Some word → IsReached t p
   reached_position heap word (by_root held r among is) p e =
       let found = listed_named layouts s v t place holds all_held in_frames r among in
       let names : found.0 ≡ at p = word_names layouts t place v.heap holds.objects found.0 (at p) word (subst (IsWord place found.0) is found.1.1) e in

@@ -22,7 +22,7 @@ use Rattle.gc_heap.specs.Content.{total, block_size}
 use Rattle.gc_heap.specs.Heap.{HasRoom}
 use Rattle.gc_policy.proofs.CollectedKept.{reached_placed}
 use Rattle.gc_policy.specs.Accounts.{HoldsAccount}
-use Rattle.gc_policy.specs.Policy.{PolicyState, LiesNow, block_of}
+use Rattle.gc_policy.specs.Policy.{PolicyState, LiesNow, block_bytes}
 use Rattle.gc_policy.proofs.HeapGaps.{gap_beside, gap_now, free_now}
 use Rattle.gc_policy.proofs.HeldBlocks.{held_block}
 use Rattle.gc_policy.proofs.HeldEntries.{held_entry}
@@ -31,7 +31,7 @@ use Rattle.gc_policy.proofs.HeldPaths.{is_reached, is_reached-true, true-is_reac
 use Rattle.gc_policy.proofs.HeldSums.{sum_part, passing, passes, distinct_passing, same_sums}
 
 -- what an object takes in a copying heap is its block
-as_block : {D : Type 0} (types : List Declaration) (o : Option (Object D)) → rounded_size types o ≡ block_of Copying types o
+as_block : {D : Type 0} (types : List Declaration) (o : Option (Object D)) → rounded_size types o ≡ block_bytes Copying types o
 as_block types None = refl
 as_block types (Some o) = refl
 
@@ -66,7 +66,7 @@ module _ {D : Type 0} (s : StoreView D) (t : Table D) (place : Placing) (holds :
       }
 
   -- Room beside all objects of the heap is room beside those that are reached.
-  pub held_room : (size : ℕ) → HasRoom Copying s.heap size → allocation.HasRoom t size
+  pub held_room : (size : ℕ) → HasRoom Copying s.heap size → allocation.FitsHalf t size
   held_room size room =
       let capacity = holds.memory.capacity in
       let part = sum_part (copied_size t) reached all_positions reached_are.distinct (λ p c. (passing (is_reached t.objects (root_references t)) all_positions p c).0) in
@@ -75,7 +75,7 @@ module _ {D : Type 0} (s : StoreView D) (t : Table D) (place : Placing) (holds :
       record { reached = reached; are_reached = reached_are; room = omega arith }
 
 -- After a collection these are the same.
-pub collected_room : {D : Type 0} (s : StoreView D) (t : Table D) (size : ℕ) → HoldsKept Copying s t → allocation.HasRoom t size → HasRoom Copying s.heap size
+pub collected_room : {D : Type 0} (s : StoreView D) (t : Table D) (size : ℕ) → HoldsKept Copying s t → allocation.FitsHalf t size → HasRoom Copying s.heap size
 collected_room s t size kept has =
     let holds = kept.1.0 in
     let capacity = holds.memory.capacity in

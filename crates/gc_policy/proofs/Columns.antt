@@ -3,7 +3,7 @@ use Rattle.std.proofs.Common.{◌≡◌, ℕ, ◌<◌, inl, inr, Bool, not, cond
 use Rattle.std.proofs.lemmas.Bool.{cases_eq, eq-eqb, ne_eqb}
 use Rattle.std.proofs.lemmas.List.Elements.{Contains-append_cases, Contains-append_left, Contains-append_right}
 use Rattle.gc_roots.specs.Roots.{Root, root}
-use Rattle.gc_owner.specs.RootColumns.{present, listed_as}
+use Rattle.gc_owner.specs.RootColumns.{non_null_words, listed_as}
 use Rattle.gc_model.specs.Values.{Reference}
 use Rattle.gc_model.specs.Words.{Placing, IsWord}
 use Rattle.gc_memory.proofs.ListLemmas.{only_item}
@@ -44,10 +44,10 @@ module _ (kind : ℕ) (on_stack : Bool) where
   listed words = listed_as kind on_stack words
 
   listed-null : (w : ℕ) (ws : List ℕ) → w ≡ 0 → listed (w ∷ ws) ≡ listed ws
-  listed-null w ws null = ap (λ t. map (λ v. root kind on_stack v) (cond (not t) (w ∷ present ws) (present ws))) (eq-eqb w 0 null)
+  listed-null w ws null = ap (λ t. map (λ v. root kind on_stack v) (cond (not t) (w ∷ non_null_words ws) (non_null_words ws))) (eq-eqb w 0 null)
 
   listed-present : (w : ℕ) (ws : List ℕ) → ((w ≡ 0) → ⊥) → listed (w ∷ ws) ≡ root kind on_stack w ∷ listed ws
-  listed-present w ws present_is = ap (λ t. map (λ v. root kind on_stack v) (cond (not t) (w ∷ present ws) (present ws))) (ne_eqb w 0 present_is)
+  listed-present w ws present_is = ap (λ t. map (λ v. root kind on_stack v) (cond (not t) (w ∷ non_null_words ws) (non_null_words ws))) (ne_eqb w 0 present_is)
 
   -- what is listed is a word that isn't null
   pub listed_word : (ws : List ℕ) (x : Root) → Contains (listed ws) x → Contains ws x.word × (0 < x.word)

@@ -38,11 +38,11 @@ use Rattle.gc_heap.proofs.AgainLemmas.{external_offsets}
 use Rattle.gc_owner.specs.declared.entry.RootEntry.{RootEntry}
 use Rattle.gc_owner.specs.declared.entry.OwnedEntry.{OwnedEntry}
 use Rattle.gc_owner.specs.declared.entry.SlotEntry.{SlotEntry}
-use Rattle.gc_owner.specs.RootColumns.{RootsView, scoped_words, owned_words, slot_words, global_words, listed_as, roots_of, with_handles}
+use Rattle.gc_owner.specs.RootColumns.{RootsView, scoped_words, owned_words, frame_slot_words, global_words, listed_as, roots_of, with_handles}
 use Rattle.gc_owner.specs.RootColumns as columns
 use Rattle.gc_owner.specs.Owners.{OwnerView, CanBegin}
 use Rattle.gc_policy.specs.Accounts.{Account, HoldsAccount}
-use Rattle.gc_policy.specs.Collects.{IsPlaced}
+use Rattle.gc_policy.specs.Collects.{HasPlace}
 use Rattle.gc_policy.proofs.CollectedLists.{get_contains, contains_map}
 use Rattle.gc_policy.proofs.Columns.{word_listed}
 use Rattle.gc_policy.proofs.Frames.{frame_words}
@@ -119,24 +119,24 @@ module _ (place : Placing) (p word : ℕ) (is : IsPlacedAlone place p word) wher
           by false = rest
 
   -- nulls are no roots, and name nothing
-  present_alike : (ws : List ℕ) → occurrences word (columns.present ws) ≡ occurrences word ws
+  present_alike : (ws : List ℕ) → occurrences word (columns.non_null_words ws) ≡ occurrences word ws
   present_alike [] = refl
   present_alike (w ∷ ws) = elim (cases_eq w 0) [
     | inl zero_word ↦
         let other : nat_eq word w ≡ false = let not_null = is.not_null in ne_eqb word w (λ same. absurd (omega (arith, same, zero_word))) in
-        ap (λ b. occurrences word (cond (not b) (w ∷ columns.present ws) (columns.present ws))) (eq-eqb w 0 zero_word)
+        ap (λ b. occurrences word (cond (not b) (w ∷ columns.non_null_words ws) (columns.non_null_words ws))) (eq-eqb w 0 zero_word)
         ∙ present_alike ws
         ∙ sym (ap (λ b. length (cond b (w ∷ filter (nat_eq word) ws) (filter (nat_eq word) ws))) other)
     | inr above ↦
-        ap (λ b. occurrences word (cond (not b) (w ∷ columns.present ws) (columns.present ws))) (ne_eqb w 0 above)
-        ∙ occurrences-append word (w ∷ []) (columns.present ws)
+        ap (λ b. occurrences word (cond (not b) (w ∷ columns.non_null_words ws) (columns.non_null_words ws))) (ne_eqb w 0 above)
+        ∙ occurrences-append word (w ∷ []) (columns.non_null_words ws)
         ∙ ap (λ n. occurrences word (w ∷ []) + n) (present_alike ws)
         ∙ sym (occurrences-append word (w ∷ []) ws)
   ]
 
   -- words of one kind that are counted
   column_words : (kind : ℕ) (ws : List ℕ) → occurrences word (held_words (listed_as kind false ws)) ≡ occurrences word ws
-  column_words kind ws = ap (occurrences word) (words_listed kind (columns.present ws)) ∙ present_alike ws
+  column_words kind ws = ap (occurrences word) (words_listed kind (columns.non_null_words ws)) ∙ present_alike ws
 
   column_alike : (kind : ℕ) (rs : List Reference) (ws : List ℕ) → AreWordsOf place rs ws → occurrences word (held_words (listed_as kind false ws)) ≡ times p rs
   column_alike kind rs ws words = column_words kind ws ∙ sym (times_alike rs ws words)
@@ -152,7 +152,7 @@ module _ (place : Placing) (p word : ℕ) (is : IsPlacedAlone place p word) wher
   -- and the pending exception
   pending_alike : (pending : Option Reference) (w : ℕ) → PendingBy place pending w → occurrences word (held_words (listed_as 4 false (w ∷ []))) ≡ times p (present pending)
   pending_alike None w zero_word =
-      ap (occurrences word) (words_listed 4 (columns.present (w ∷ []))) ∙ present_alike (w ∷ [])
+      ap (occurrences word) (words_listed 4 (columns.non_null_words (w ∷ []))) ∙ present_alike (w ∷ [])
       ∙ ap (λ b. length (cond b (w ∷ []) [])) (let not_null = is.not_null in ne_eqb word w (λ same. absurd (omega (arith, same, zero_word))))
   pending_alike (Some r) w stands = column_alike 4 (r ∷ []) (w ∷ []) (stands.0, tt)
 
@@ -189,10 +189,10 @@ module _ {D : Type 0} (s : StoreView D) (v : OwnerView D) (t : Table D) (place :
         ∙ times_alike place p word alone (references_in there.entry) (references Counting t.types h)
         (object_words there.entry h (heap.objects w h got).spare (object_held Counting (shown s v) t place holds (found_at w) w there.entry h placed got there.in_table))
 
-    objects_alike : (held : List ℕ) → AreAll (IsPlaced place) held → sum (map names_in held) ≡ total (λ o. occurrences word (references Counting t.types o)) v.heap.content
+    objects_alike : (held : List ℕ) → AreAll (HasPlace place) held → sum (map names_in held) ≡ total (λ o. occurrences word (references Counting t.types o)) v.heap.content
     objects_alike held all =
         sum-map names_in held
-        ∙ same_positions names_in (IsPlaced place) held (positions Counting t place v.heap holds.objects) all (are_placed Counting t place v.heap holds.objects)
+        ∙ same_positions names_in (HasPlace place) held (positions Counting t place v.heap holds.objects) all (are_placed Counting t place v.heap holds.objects)
         ∙ same_sums names_in (λ (e : ℕ × HeapObject). found_at e.0) (λ (e : ℕ × HeapObject). occurrences word (references Counting t.types e.1)) (entries v.heap.content)
         (λ i e there. object_names e.0 e.1 (held_entry v.heap.content i e there))
         ∙ sym (sum-map (λ (e : ℕ × HeapObject). occurrences word (references Counting t.types e.1)) (entries v.heap.content))
@@ -204,7 +204,7 @@ module _ {D : Type 0} (s : StoreView D) (v : OwnerView D) (t : Table D) (place :
     behind_slots = listed_as 3 false (global_words r) ++ listed_as 4 false (r.pending ∷ [])
 
     abbrev behind_owned : List Root
-    behind_owned = listed_as 2 true (slot_words r) ++ behind_slots
+    behind_owned = listed_as 2 true (frame_slot_words r) ++ behind_slots
 
     abbrev behind_scoped : List Root
     behind_scoped = listed_as 1 false (owned_words r) ++ behind_owned
@@ -217,10 +217,10 @@ module _ {D : Type 0} (s : StoreView D) (v : OwnerView D) (t : Table D) (place :
         let globals = column_alike place p word alone 3 (slot_references t.globals) (global_words r)
         (words_each place (λ (x : Slot). x.reference) (λ (e : SlotEntry). e.word) t.globals r.globals holds.globals.slots.same_count (λ i e x f g. (holds.globals.slots.each i e x f g).word)) in
         let pending = pending_alike place p word alone t.pending r.pending holds.pending.same_word in
-        let slots : occurrences word (held_words (listed_as 2 true (slot_words r))) ≡ 0 = ap (occurrences word) (words_stacked 2 (columns.present (slot_words r))) in
+        let slots : occurrences word (held_words (listed_as 2 true (frame_slot_words r))) ≡ 0 = ap (occurrences word) (words_stacked 2 (columns.non_null_words (frame_slot_words r))) in
         let cut0 = held-append word (listed_as 0 false (scoped_words r)) behind_scoped in
         let cut1 = held-append word (listed_as 1 false (owned_words r)) behind_owned in
-        let cut2 = held-append word (listed_as 2 true (slot_words r)) behind_slots in
+        let cut2 = held-append word (listed_as 2 true (frame_slot_words r)) behind_slots in
         let cut3 = held-append word (listed_as 3 false (global_words r)) (listed_as 4 false (r.pending ∷ [])) in
         let sum0 = times-append p (map (λ (x : Scoped). x.reference) t.scoped) (map (λ (x : Owned). x.reference) t.owned ++ (slot_references t.globals ++ present t.pending)) in
         let sum1 = times-append p (map (λ (x : Owned). x.reference) t.owned) (slot_references t.globals ++ present t.pending) in
@@ -232,16 +232,16 @@ module _ {D : Type 0} (s : StoreView D) (v : OwnerView D) (t : Table D) (place :
     slot_listed in_frames among =
         let found = (frames_named Counting (shown s v) t place holds).forth (at p) among in
         let same : found.0 ≡ word = same_Some found.0 word (sym found.1.1 ∙ alone.placed) in
-        let there : Contains (slot_words r) word = subst (Contains (slot_words r)) same (subst (λ (ws : List ℕ). Contains ws found.0) (frame_words r.slots r.frames in_frames) found.1.0) in
-        let listed = word_listed 2 true (slot_words r) word there alone.not_null in
-        let stacked : Contains (stack_words (listed_as 2 true (slot_words r))) word =
-        subst (λ (ws : List ℕ). Contains ws word) (sym (stack_listed 2 (columns.present (slot_words r)))) (subst (Contains (columns.present (slot_words r))) listed.1.1 (listed_present 2 (columns.present (slot_words r)) listed.0 listed.1.0)) in
+        let there : Contains (frame_slot_words r) word = subst (Contains (frame_slot_words r)) same (subst (λ (ws : List ℕ). Contains ws found.0) (frame_words r.slots r.frames in_frames) found.1.0) in
+        let listed = word_listed 2 true (frame_slot_words r) word there alone.not_null in
+        let stacked : Contains (stack_words (listed_as 2 true (frame_slot_words r))) word =
+        subst (λ (ws : List ℕ). Contains ws word) (sym (stack_listed 2 (columns.non_null_words (frame_slot_words r)))) (subst (Contains (columns.non_null_words (frame_slot_words r))) listed.1.1 (listed_present 2 (columns.non_null_words (frame_slot_words r)) listed.0 listed.1.0)) in
         subst (λ (ws : List ℕ). Contains ws word) (sym (words-append (λ (x : Root). x.on_stack) (listed_as 0 false (scoped_words r)) behind_scoped))
         (Contains-append_right (stack_words (listed_as 0 false (scoped_words r))) (stack_words behind_scoped) word
         (subst (λ (ws : List ℕ). Contains ws word) (sym (words-append (λ (x : Root). x.on_stack) (listed_as 1 false (owned_words r)) behind_owned))
         (Contains-append_right (stack_words (listed_as 1 false (owned_words r))) (stack_words behind_owned) word
-        (subst (λ (ws : List ℕ). Contains ws word) (sym (words-append (λ (x : Root). x.on_stack) (listed_as 2 true (slot_words r)) behind_slots))
-        (Contains-append_left (stack_words (listed_as 2 true (slot_words r))) (stack_words behind_slots) word stacked)))))
+        (subst (λ (ws : List ℕ). Contains ws word) (sym (words-append (λ (x : Root). x.on_stack) (listed_as 2 true (frame_slot_words r)) behind_slots))
+        (Contains-append_left (stack_words (listed_as 2 true (frame_slot_words r))) (stack_words behind_slots) word stacked)))))
 
 -- The counts of a counting heap are those of the table that its store holds.
 pub counts_by : {D : Type 0} (s : StoreView D) (v : OwnerView D) (t : Table D) (a : Account) → HoldsAccount Counting (shown s v) t a → IsHeap Counting v.heap → CanBegin Counting v → SlotsInFrames v.roots → CountsBy t a.held a.places v.roots.owned v.heap.counts

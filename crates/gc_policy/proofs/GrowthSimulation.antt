@@ -10,7 +10,7 @@ use Rattle.gc_model.specs.Reach.{IsReached}
 use Rattle.gc_model.proofs.HoldsHeap.{IsGrownHeap, holds_pages}
 use Rattle.gc_heap.specs.Content.{IsHeap}
 use Rattle.gc_heap.specs.Heap.{allocated_in_more}
-use Rattle.gc_owner.specs.Growing.{OwnerState, state_of, Grows, AsksPages, unasked, refused, granted, pages_of, heap_after}
+use Rattle.gc_owner.specs.Growing.{OwnerState, state_of, GrowsReadied, AsksPages, unasked, refused, granted, pages_of, heap_after}
 use Rattle.gc_policy.specs.Policy.{PolicyState, GrowsTable, table_after}
 use Rattle.gc_owner.specs.RootColumns.{roots_of}
 use Rattle.gc_heap.specs.Collection.{has_host}
@@ -88,7 +88,7 @@ module _ {D : Type 0} (layouts : Layouts) (s : StoreView D) (bytes : ℕ) (h : O
   refused_only limits false _ only = only
   refused_only limits true is only = absurd (cc)
 
-pub growth_follows : {D : Type 0} (layouts : Layouts) (s : StoreView D) (bytes : ℕ) (h : OwnerState D) (p : PolicyState D) (agrees : Agrees layouts s h p) (ok : Bool) (e : OwnerState D) → Grows layouts bytes h ok e → FollowsGrowth layouts s bytes h e p ok
+pub growth_follows : {D : Type 0} (layouts : Layouts) (s : StoreView D) (bytes : ℕ) (h : OwnerState D) (p : PolicyState D) (agrees : Agrees layouts s h p) (ok : Bool) (e : OwnerState D) → GrowsReadied layouts bytes h ok e → FollowsGrowth layouts s bytes h e p ok
 growth_follows {D} layouts s bytes h p agrees ok e grew =
     let ready = ready_follows layouts s h p agrees grew.ready grew.readied in
     let asks : AsksPages ready.after.table.pages bytes ready.after.limits ok e.limits =

@@ -25,8 +25,8 @@ use Rattle.gc_model.proofs.ObjectStands.{stands_by_shape}
 use Rattle.gc_heap.specs.Extents.{HasFields}
 use Rattle.gc_heap.specs.Objects.{size_with}
 use Rattle.gc_heap.specs.Content.{total, block_size}
-use Rattle.gc_policy.specs.Collects.{IsPlaced}
-use Rattle.gc_policy.specs.Policy.{block_of, block_at}
+use Rattle.gc_policy.specs.Collects.{HasPlace}
+use Rattle.gc_policy.specs.Policy.{block_bytes, block_bytes_at}
 use Rattle.gc_policy.proofs.CollectedOffsets.{stands_fields}
 use Rattle.gc_policy.proofs.HeldEntries.{held_entry}
 use Rattle.gc_policy.proofs.HeldNumber.{position_of, placed_of, positions, are_placed}
@@ -48,7 +48,7 @@ fields_size layouts ArrayRef n fields = refl
 fields_size layouts ExnRef n fields = refl
 
 -- what stands for an object with values takes as many bytes, to the next multiple of 16, as its type and its values say
-shape_block : {D : Type 0} (layouts : Layouts) (types : List Declaration) (names : Names) (o : Object D) (h : HeapObject) → ¬ IsHost (Some o) → Stands layouts types names o h → block_of layouts types (Some o) ≡ block_size layouts h
+shape_block : {D : Type 0} (layouts : Layouts) (types : List Declaration) (names : Names) (o : Object D) (h : HeapObject) → ¬ IsHost (Some o) → Stands layouts types names o h → block_bytes layouts types (Some o) ≡ block_size layouts h
 shape_block layouts types names o h not_host stands =
     let by = stands_by_shape layouts types names o h not_host stands in
     let size : object_size layouts types o ≡ shape_size layouts by.stands.shape by.stands.count =
@@ -59,7 +59,7 @@ shape_block layouts types names o h not_host stands =
     ∙ sym (block ∙ ap (λ n. round_up n 16) by.stands.size ∙ stored_again layouts (shape_size layouts by.stands.shape by.stands.count))
 
 -- and so does an external object
-object_block : {D : Type 0} (layouts : Layouts) (types : List Declaration) (names : Names) (o : Object D) (h : HeapObject) → Stands layouts types names o h → block_of layouts types (Some o) ≡ block_size layouts h
+object_block : {D : Type 0} (layouts : Layouts) (types : List Declaration) (names : Names) (o : Object D) (h : HeapObject) → Stands layouts types names o h → block_bytes layouts types (Some o) ≡ block_size layouts h
 object_block {D} layouts types names (struct ty values) h stands = shape_block {D = D} layouts types names (struct ty values) h (λ is. is) stands
 object_block {D} layouts types names (array ty values) h stands = shape_block {D = D} layouts types names (array ty values) h (λ is. is) stands
 object_block {D} layouts types names (host value) h stands =
@@ -67,10 +67,10 @@ object_block {D} layouts types names (host value) h stands =
 object_block {D} layouts types names (exception ty tag values) h stands = shape_block {D = D} layouts types names (exception ty tag values) h (λ is. is) stands
 
 -- An object takes as many bytes, to the next multiple of 16, as its type and its values say.
-pub held_block : {D : Type 0} (layouts : Layouts) (s : StoreView D) (t : Table D) (place : Placing) → Holds layouts s t place → (p word : ℕ) (h : HeapObject) → place p ≡ Some word → get s.heap.content word ≡ Some h → block_at layouts t p ≡ block_size layouts h
+pub held_block : {D : Type 0} (layouts : Layouts) (s : StoreView D) (t : Table D) (place : Placing) → Holds layouts s t place → (p word : ℕ) (h : HeapObject) → place p ≡ Some word → get s.heap.content word ≡ Some h → block_bytes_at layouts t p ≡ block_size layouts h
 held_block layouts s t place holds p word h placed got =
     let there = holds.objects.placed p word placed in
-    ap (block_of layouts t.types) there.in_table
+    ap (block_bytes layouts t.types) there.in_table
     ∙ object_block layouts t.types (naming place s.ids) there.entry h (object_held layouts s t place holds p word there.entry h placed got there.in_table)
 
 -- sums over two lists that have the same positions, each once
@@ -82,17 +82,17 @@ same_positions f IsIn xs ys all all' =
 
 module _ {D : Type 0} (layouts : Layouts) (s : StoreView D) (t : Table D) (place : Placing) (holds : Holds layouts s t place) where
   -- an object takes as many bytes as the table says
-  block_is : (word : ℕ) (o : HeapObject) → get s.heap.content word ≡ Some o → block_at layouts t (position_of layouts t place s.heap holds.objects word) ≡ block_size layouts o
+  block_is : (word : ℕ) (o : HeapObject) → get s.heap.content word ≡ Some o → block_bytes_at layouts t (position_of layouts t place s.heap holds.objects word) ≡ block_size layouts o
   block_is word o e =
       held_block layouts s t place holds (position_of layouts t place s.heap holds.objects word) word o (placed_of layouts t place s.heap holds.objects word o e) e
 
   -- The blocks of the held positions are together those of the heap.
-  pub held_blocks : (held : List ℕ) → AreAll (IsPlaced place) held → sum (map (block_at layouts t) held) ≡ total (block_size layouts) s.heap.content
+  pub held_blocks : (held : List ℕ) → AreAll (HasPlace place) held → sum (map (block_bytes_at layouts t) held) ≡ total (block_size layouts) s.heap.content
   held_blocks held all =
       let placed = are_placed layouts t place s.heap holds.objects in
-      sum-map (block_at layouts t) held
-      ∙ same_positions (block_at layouts t) (IsPlaced place) held (positions layouts t place s.heap holds.objects) all placed
-      ∙ same_sums (block_at layouts t) (λ (e : ℕ × HeapObject). position_of layouts t place s.heap holds.objects e.0) (λ (e : ℕ × HeapObject). block_size layouts e.1) (entries s.heap.content)
+      sum-map (block_bytes_at layouts t) held
+      ∙ same_positions (block_bytes_at layouts t) (HasPlace place) held (positions layouts t place s.heap holds.objects) all placed
+      ∙ same_sums (block_bytes_at layouts t) (λ (e : ℕ × HeapObject). position_of layouts t place s.heap holds.objects e.0) (λ (e : ℕ × HeapObject). block_size layouts e.1) (entries s.heap.content)
       (λ i e there. block_is e.0 e.1 (held_entry s.heap.content i e there))
       ∙ sym (sum-map (λ (e : ℕ × HeapObject). block_size layouts e.1) (entries s.heap.content))
 

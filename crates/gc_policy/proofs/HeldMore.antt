@@ -6,7 +6,7 @@ use Rattle.gc_model.specs.Reach.{AreAll}
 use Rattle.gc_model.specs.Holds.{Placing}
 use Rattle.gc_model.proofs.HoldsMake.{placed_at}
 use Rattle.gc_memory.proofs.ListLemmas.{only_item}
-use Rattle.gc_policy.specs.Collects.{IsPlaced}
+use Rattle.gc_policy.specs.Collects.{HasPlace}
 use Rattle.gc_policy.proofs.CollectedLists.{get_contains}
 use Rattle.gc_policy.proofs.HeldSums.{distinct_push}
 
@@ -20,7 +20,7 @@ placed_cases : (place : Placing) (n word position w : ℕ) → placed_at place n
 placed_cases place n word position w e = grind (arith, common_steps)
 
 -- all positions that were held, which lie below the new one, and this
-pub held_more : (place : Placing) (held : List ℕ) (n word : ℕ) → ((p w : ℕ) → place p ≡ Some w → p < n) → AreAll (IsPlaced place) held → AreAll (IsPlaced (placed_at place n word)) (held ++ n ∷ [])
+pub held_more : (place : Placing) (held : List ℕ) (n word : ℕ) → ((p w : ℕ) → place p ≡ Some w → p < n) → AreAll (HasPlace place) held → AreAll (HasPlace (placed_at place n word)) (held ++ n ∷ [])
 held_more place held n word below all = record {
   distinct = distinct_push held n all.distinct (λ c. let there = (all.all n).0 c in absurd (let less : n < n = below n there.0 there.1 in omega arith));
   all = λ p. (

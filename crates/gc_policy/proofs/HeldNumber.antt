@@ -9,7 +9,7 @@ use Rattle.gc_model.specs.Reach.{IsKept, AreAll, HasNumber}
 use Rattle.gc_view.specs.Heaps.{HeapObject, HeapView}
 use Rattle.gc_model.specs.Stores.{StoreView}
 use Rattle.gc_model.specs.Holds.{Placing, InternedIds, naming, ObjectsHold, Holds, HoldsKept}
-use Rattle.gc_policy.specs.Collects.{IsPlaced}
+use Rattle.gc_policy.specs.Collects.{HasPlace}
 use Rattle.gc_policy.proofs.CollectedLists.{get_contains, contains_map, map_get}
 use Rattle.gc_policy.proofs.CollectedKept.{kept_placed}
 use Rattle.gc_policy.proofs.HeldEntries.{held_entry, entry_held, keys_differ}
@@ -34,19 +34,19 @@ module _ {D : Type 0} (layouts : Layouts) (t : Table D) (place : Placing) {ids :
   abbrev pub positions : List ℕ
   positions = map (λ (e : ℕ × HeapObject). position_of e.0) (entries heap.content)
 
-  placed_from : (p : ℕ) → Contains positions p → IsPlaced place p
+  placed_from : (p : ℕ) → Contains positions p → HasPlace place p
   placed_from p c =
       let found = contains_map (λ (e : ℕ × HeapObject). position_of e.0) (entries heap.content) p c in
       (found.element.0, ap place (sym found.is) ∙ placed_of found.element.0 found.element.1 (held_entry heap.content found.index found.element found.there))
 
-  placed_among : (p : ℕ) → IsPlaced place p → Contains positions p
+  placed_among : (p : ℕ) → HasPlace place p → Contains positions p
   placed_among p (word, e) =
       let held = objects.placed p word e in
       let entry = entry_held heap.content word held.object held.in_heap in
       let same : position_of word ≡ p = objects.injective (position_of word) p word (placed_of word held.object held.in_heap) e in
       subst (Contains positions) same (get_contains positions entry.0 (position_of word) (map_get (λ (e : ℕ × HeapObject). position_of e.0) (entries heap.content) entry.0 (word, held.object) entry.1))
 
-  pub are_placed : AreAll (IsPlaced place) positions
+  pub are_placed : AreAll (HasPlace place) positions
   are_placed = record {
     distinct = keys_differ position_of heap.content (λ p q x y e f same.
         let both : Some p ≡ Some q = sym (placed_of p x e) ∙ ap place same ∙ placed_of q y f in grind (arith, both));
@@ -58,7 +58,7 @@ module _ {D : Type 0} (layouts : Layouts) (t : Table D) (place : Placing) {ids :
 
 module _ {D : Type 0} (layouts : Layouts) (s : StoreView D) (t : Table D) (place : Placing) (holds : Holds layouts s t place) where
   -- The heap holds as many objects as positions are placed.
-  pub held_number : HasNumber (IsPlaced place) (len s.heap.content)
+  pub held_number : HasNumber (HasPlace place) (len s.heap.content)
   held_number = (positions layouts t place s.heap holds.objects, (are_placed layouts t place s.heap holds.objects, length-positions layouts t place s.heap holds.objects))
 
   -- Where only what a collection keeps is placed, these are the positions that it keeps.

@@ -15,14 +15,14 @@ use Rattle.gc_view.specs.Heaps.{HeapView, HeapObject}
 use Rattle.gc_heap.specs.Content.{IsHeap}
 use Rattle.gc_heap.specs.Extents.{host_id}
 use Rattle.gc_heap.specs.Objects.{external}
-use Rattle.gc_heap.specs.Collection.{Reached, by_root, by_field, Kept, KindCollected, IsExternal, IsPartOf, has_host}
+use Rattle.gc_heap.specs.Collection.{ReachedPlace, by_root, by_field, Kept, KindCollected, IsExternal, IsPartOf, has_host}
 use Rattle.gc_heap.proofs.AgainLemmas.{origin, external_origin}
 use Rattle.gc_owner.specs.RootColumns.{roots_of}
 use Rattle.gc_owner.specs.Tracing.{start_from}
 use Rattle.gc_owner.specs.Owners.{OwnerView, CanBegin, Trims, Collects, CollectsAll, start_of}
-use Rattle.gc_owner.specs.Growing.{OwnerState, state_of, CollectsState, Readies, Grows, asked, pages_of, heap_after, owner_rules}
-use Rattle.gc_owner.specs.Retry.{Ends, Retry, at_once, after_collection, after_both, after_growth, after_refusal, Growing, Paused, at_first, in_collection, in_both, in_growth, in_refusal}
-use Rattle.gc_owner.specs.Makes.{AddsRooted, LacksSpace}
+use Rattle.gc_owner.specs.Growing.{OwnerState, state_of, CollectsState, Readies, GrowsReadied, asked, pages_of, heap_after, owner_rules}
+use Rattle.gc_owner.specs.Retry.{HasFoundRoom, Retry, at_once, after_collection, after_both, after_growth, after_refusal, Growing, Paused, at_first, in_collection, in_both, in_growth, in_refusal}
+use Rattle.gc_owner.specs.Makes.{AddsScoped, LacksSpace}
 use Rattle.gc_owner.specs.HostValues.{with_host, PlacesValue, TakesBack}
 use Rattle.gc_owner.proofs.Begins.{memory_heap}
 use Rattle.gc_owner.proofs.GrowthLemmas.{grown_kept}
@@ -39,7 +39,7 @@ less_state id s = state_of (less id s.owner) s.limits
 
 -- Which values a host table has doesn't matter to what a collection keeps
 
-reached_with : (layouts : Layouts) (types : List Declaration) (h : HeapView) (roots : List Root) (hosts hosts' : ℕ → Bool) (place : ℕ) → Reached layouts (start_from types h roots hosts) place → Reached layouts (start_from types h roots hosts') place
+reached_with : (layouts : Layouts) (types : List Declaration) (h : HeapView) (roots : List Root) (hosts hosts' : ℕ → Bool) (place : ℕ) → ReachedPlace layouts (start_from types h roots hosts) place → ReachedPlace layouts (start_from types h roots hosts') place
 reached_with layouts types h roots hosts hosts' _ (by_root held r among is) = by_root held r among is
 reached_with layouts types h roots hosts hosts' _ (by_field held {from = from} reached o got among) = by_field held (reached_with layouts types h roots hosts hosts' from reached) o got among
 
@@ -218,7 +218,7 @@ module _ {D : Type 0} (layouts : Layouts) (id : ℕ) (value : D) where
   }
   heap_spare false bytes v has heap = has
 
-  grown_less : (bytes : ℕ) (s : OwnerState D) (granted : Bool) (e : OwnerState D) → HasSpare layouts id value s.owner → Grows layouts bytes s granted e → Grows layouts bytes (less_state id s) granted (less_state id e)
+  grown_less : (bytes : ℕ) (s : OwnerState D) (granted : Bool) (e : OwnerState D) → HasSpare layouts id value s.owner → GrowsReadied layouts bytes s granted e → GrowsReadied layouts bytes (less_state id s) granted (less_state id e)
   grown_less bytes s granted e has grows = record {
     ready = less_state id grows.ready;
     readied = readied_less s grows.ready has grows.readied;
@@ -227,7 +227,7 @@ module _ {D : Type 0} (layouts : Layouts) (id : ℕ) (value : D) where
     is_heap = grows.is_heap;
   }
 
-  grown_spare : (bytes : ℕ) (s : OwnerState D) (granted : Bool) (e : OwnerState D) → HasSpare layouts id value s.owner → Grows layouts bytes s granted e → HasSpare layouts id value e.owner
+  grown_spare : (bytes : ℕ) (s : OwnerState D) (granted : Bool) (e : OwnerState D) → HasSpare layouts id value s.owner → GrowsReadied layouts bytes s granted e → HasSpare layouts id value e.owner
   grown_spare bytes s granted e has grows =
       subst (λ (x : OwnerState D). HasSpare layouts id value x.owner) (sym grows.after)
       (heap_spare granted bytes grows.ready.owner (readied_spare s grows.ready has grows.readied) (subst (λ (x : OwnerState D). IsHeap layouts x.owner.heap) grows.after grows.is_heap))
@@ -235,7 +235,7 @@ module _ {D : Type 0} (layouts : Layouts) (id : ℕ) (value : D) where
   -- The rule of retry
 
   module _ (size : ℕ) where
-    ends_less : (ok : Bool) (e : OwnerState D) → Ends (owner_rules layouts size) ok e → Ends (owner_rules layouts size) ok (less_state id e)
+    ends_less : (ok : Bool) (e : OwnerState D) → HasFoundRoom (owner_rules layouts size) ok e → HasFoundRoom (owner_rules layouts size) ok (less_state id e)
     ends_less true e ends = ends
     ends_less false e ends = ends
 
@@ -286,7 +286,7 @@ module _ {D : Type 0} (layouts : Layouts) (value : D) (s : OwnerState D) (heap :
         retried = subst (λ (x : OwnerState D). Retry (owner_rules layouts (external_size layouts)) x true (less_state id mid)) (put_back id places.fresh)
             (retry_less layouts id value (external_size layouts) (put id) true mid has places.allocates.retried);
         fresh = gone mid.owner.hosts id;
-        adds = subst (λ (m : FinMap nat_cmp D). AddsRooted layouts (record mid.owner { hosts = m }) e.owner (external id) (external_size layouts) index) (less_put id mid.owner.hosts value there) places.allocates.adds;
+        adds = subst (λ (m : FinMap nat_cmp D). AddsScoped layouts (record mid.owner { hosts = m }) e.owner (external id) (external_size layouts) index) (less_put id mid.owner.hosts value there) places.allocates.adds;
         limits = places.allocates.limits;
       }
     where

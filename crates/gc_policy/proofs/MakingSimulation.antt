@@ -15,7 +15,7 @@ use Rattle.gc_heap.specs.Heap.{allocated_at_first}
 use Rattle.gc_heap.specs.Collection.{has_host}
 use Rattle.gc_owner.specs.RootColumns.{roots_of}
 use Rattle.gc_owner.specs.Owners.{OwnerView, CanBegin}
-use Rattle.gc_owner.specs.Growing.{OwnerState, state_of, AsksFirst, already, granted, refused, GetsFirst, MakesHeap, Begins, NotBegun}
+use Rattle.gc_owner.specs.Growing.{OwnerState, state_of, AsksFirst, already, granted, refused, GetsFirst, MakesHeap, BeginsHeap, NotBegun}
 use Rattle.gc_owner.proofs.Begins.{attached_kept}
 use Rattle.gc_policy.specs.Accounts.{Account, HoldsAccount, is_due}
 use Rattle.gc_policy.specs.Policy.{PolicyState, MakesTable, Dues}
@@ -134,11 +134,11 @@ module _ {D : Type 0} (layouts : Layouts) (s : StoreView D) (h : OwnerState D) (
         may = λ _. may;
       }
 
-  pub making_follows : (e : OwnerState D) → Begins layouts s.first h e → FollowsMaking layouts s e p
+  pub making_follows : (e : OwnerState D) → BeginsHeap layouts s.first h e → FollowsMaking layouts s e p
   making_follows e begins =
       subst (λ (x : OwnerView D). FollowsMaking layouts s (state_of x e.limits) p) (sym begins.rest) (made_follows e.owner.heap e.limits begins.makes)
 
-  pub beginning_follows : (counter : Option ℕ) (due : Bool) → due ≡ is_due counter p.account.tries → (m e : OwnerState D) → Begins layouts s.first h m → DuesOwner layouts due m e → FollowsBeginning layouts s counter e p
+  pub beginning_follows : (counter : Option ℕ) (due : Bool) → due ≡ is_due counter p.account.tries → (m e : OwnerState D) → BeginsHeap layouts s.first h m → DuesOwner layouts due m e → FollowsBeginning layouts s counter e p
   beginning_follows counter due due_is m e begins dues = after_making dues
     where
       made : FollowsMaking layouts s m p

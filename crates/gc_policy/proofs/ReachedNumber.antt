@@ -79,7 +79,7 @@ distinct_map f (x ∷ xs) injective distinct = (
 )
 
 -- what is reached goes by the objects, the roots and the types alone
-reached_again : (layouts : Layouts) (s s' : Start) → s'.heap.content ≡ s.heap.content → s'.roots ≡ s.roots → s'.types ≡ s.types → (word : ℕ) → heap.Reached layouts s word → heap.Reached layouts s' word
+reached_again : (layouts : Layouts) (s s' : Start) → s'.heap.content ≡ s.heap.content → s'.roots ≡ s.roots → s'.types ≡ s.types → (word : ℕ) → heap.ReachedPlace layouts s word → heap.ReachedPlace layouts s' word
 reached_again layouts s s' content roots types word (heap.by_root held r among is) =
     heap.by_root (held.0, ap (λ m. get m word) content ∙ held.1) r (subst (λ (rs : List Root). Contains rs r) (sym roots) among) is
 reached_again layouts s s' content roots types word (heap.by_field held {from = from} reached o got among) =
@@ -87,7 +87,7 @@ reached_again layouts s s' content roots types word (heap.by_field held {from = 
     (subst (λ (ds : List Declaration). Contains (references layouts ds o) word) (sym types) among)
 
 -- the same of two trims of one owner
-reached_trimmed : {D : Type 0} (layouts : Layouts) (v m n : OwnerView D) → Trims layouts v m → Trims layouts v n → (word : ℕ) → heap.Reached layouts (start_of n) word → heap.Reached layouts (start_of m) word
+reached_trimmed : {D : Type 0} (layouts : Layouts) (v m n : OwnerView D) → Trims layouts v m → Trims layouts v n → (word : ℕ) → heap.ReachedPlace layouts (start_of n) word → heap.ReachedPlace layouts (start_of m) word
 reached_trimmed {D} layouts v m n first second =
     reached_again layouts (start_of n) (start_of m) (first.changes.held.content ∙ sym second.changes.held.content)
     (roots_are m first ∙ sym (roots_are n second)) (types_are m first ∙ sym (types_are n second))
@@ -102,7 +102,7 @@ reached_trimmed {D} layouts v m n first second =
 record ReachedAt (place : Placing) (s : Start) (p : ℕ) : Type 0 where
   pub word : ℕ
   pub placed : place p ≡ Some word
-  pub reached : heap.Reached Copying s word
+  pub reached : heap.ReachedPlace Copying s word
 
 -- an owner whose store holds a table, from which a collection may begin
 record Begins {D : Type 0} (s : StoreView D) (t : Table D) (place : Placing) (v : OwnerView D) : Type 0 where

@@ -11,7 +11,7 @@ use Rattle.gc_heap.specs.Heap.{HasRoom}
 use Rattle.gc_owner.specs.Growing.{OwnerState, owner_rules, collects_first}
 use Rattle.gc_policy.specs.Shown.{shown}
 use Rattle.gc_policy.specs.Policy.{PolicyState, CollectsTable, table_rules, table_after}
-use Rattle.gc_owner.specs.Retry.{Ends, Retry, at_once, after_collection, after_both, after_growth, after_refusal, Growing, Paused, at_first, in_collection, in_both, in_growth, in_refusal}
+use Rattle.gc_owner.specs.Retry.{HasFoundRoom, Retry, at_once, after_collection, after_both, after_growth, after_refusal, Growing, Paused, at_first, in_collection, in_both, in_growth, in_refusal}
 use Rattle.gc_policy.proofs.CollectedRoom.{OnlyKept, fits_in, lacks_fit}
 use Rattle.gc_policy.proofs.KeptPlaces.{StayAt, stay-same, stay-trans, stay-cut}
 use Rattle.gc_policy.proofs.Simulation.{Agrees, only_left, collection_follows, ready_follows, room_follows, lack_follows}
@@ -61,7 +61,7 @@ may_have_grown limit bytes t t' false refused is = inl is
 
 module _ {D : Type 0} (layouts : Layouts) (s : StoreView D) (size : ℕ) where
   -- the last try of the heap is that of the table
-  ends_follow : (e : OwnerState D) (q : PolicyState D) (ok : Bool) → Agrees layouts s e q → Ends (owner_rules layouts size) ok e → Ends (table_rules layouts size) ok q
+  ends_follow : (e : OwnerState D) (q : PolicyState D) (ok : Bool) → Agrees layouts s e q → HasFoundRoom (owner_rules layouts size) ok e → HasFoundRoom (table_rules layouts size) ok q
   ends_follow e q true agrees room = room_follows layouts s e q agrees size room
   ends_follow e q false agrees none = lack_follows layouts s e q agrees size none
 
@@ -70,12 +70,12 @@ module _ {D : Type 0} (layouts : Layouts) (s : StoreView D) (size : ℕ) where
 
   -- the table without a growth, where the heap was collected
   tried_same : (limit : Option ℕ) (t : Table D) (e : OwnerState D) (q : PolicyState D) (ok : Bool) → q.table ≡ t → IsRefusedGrowth limit t.pages (need_of layouts size) → Agrees layouts s e q → OnlyKept layouts q
-      → Ends (owner_rules layouts size) ok e → Tried layouts limit size q.account.places t ok q.table
+      → HasFoundRoom (owner_rules layouts size) ok e → Tried layouts limit size q.account.places t ok q.table
   tried_same limit t e q true same refused agrees only room = (inl same, fits_after e q agrees room)
   tried_same limit t e q false same refused agrees only none = record { same = same; refused = refused; lacks = lacks_fit layouts (shown s e.owner) q size agrees.holds only none }
 
   tried_after : (h e : OwnerState D) (p : PolicyState D) (granted ok : Bool) (grew : FollowsGrowth layouts s (need_of layouts size) h e p granted) → OnlyKept layouts p → (granted ≡ true → ok ≡ true)
-      → Ends (owner_rules layouts size) ok e → Tried layouts p.limits.limit size grew.after.account.places p.table ok grew.after.table
+      → HasFoundRoom (owner_rules layouts size) ok e → Tried layouts p.limits.limit size grew.after.account.places p.table ok grew.after.table
   tried_after h e p true true grew only goes room = (inr (grew.answer, grew.table), fits_after e grew.after grew.agrees room)
   tried_after h e p true false grew only goes room = absurd (cc (goes refl))
   tried_after h e p false ok grew only goes end = tried_same p.limits.limit p.table e grew.after ok grew.table grew.answer grew.agrees (grew.only refl only) end

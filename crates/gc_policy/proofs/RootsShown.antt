@@ -7,7 +7,7 @@ use Rattle.gc_roots.specs.Roots.{Root}
 use Rattle.gc_owner.specs.declared.entry.RootEntry.{RootEntry}
 use Rattle.gc_owner.specs.declared.entry.SlotEntry.{SlotEntry}
 use Rattle.gc_owner.specs.declared.entry.OwnedEntry.{OwnedEntry}
-use Rattle.gc_owner.specs.RootColumns.{RootsView, scoped_words, owned_words, slot_words, global_words, listed_as, roots_of, AreFrames}
+use Rattle.gc_owner.specs.RootColumns.{RootsView, scoped_words, owned_words, frame_slot_words, global_words, listed_as, roots_of, AreFrames}
 use Rattle.gc_owner.specs.Owners.{OwnerView}
 use Rattle.gc_model.specs.Values.{Reference}
 use Rattle.gc_model.specs.Table.{Table, Scoped, Slot, Owned}
@@ -85,7 +85,7 @@ module _ (r : RootsView) where
   behind_slots = listed_as 3 false (global_words r) ++ listed_as 4 false (r.pending ∷ [])
 
   abbrev behind_owned : List Root
-  behind_owned = listed_as 2 true (slot_words r) ++ behind_slots
+  behind_owned = listed_as 2 true (frame_slot_words r) ++ behind_slots
 
   abbrev behind_scoped : List Root
   behind_scoped = listed_as 1 false (owned_words r) ++ behind_owned
@@ -100,12 +100,12 @@ module _ (r : RootsView) where
   behind_rooted : (x : Root) → Contains behind_scoped x → Contains (roots_of r) x
   behind_rooted x c = Contains-append_right (listed_as 0 false (scoped_words r)) behind_scoped x c
 
-  pub slot_rooted : (w : ℕ) → Contains (slot_words r) w → 0 < w → IsRooted w
+  pub slot_rooted : (w : ℕ) → Contains (frame_slot_words r) w → 0 < w → IsRooted w
   slot_rooted w c above =
-      let found = word_listed 2 true (slot_words r) w c above in (
+      let found = word_listed 2 true (frame_slot_words r) w c above in (
         found.0,
         (
-          behind_rooted found.0 (Contains-append_right (listed_as 1 false (owned_words r)) behind_owned found.0 (Contains-append_left (listed_as 2 true (slot_words r)) behind_slots found.0 found.1.0)),
+          behind_rooted found.0 (Contains-append_right (listed_as 1 false (owned_words r)) behind_owned found.0 (Contains-append_left (listed_as 2 true (frame_slot_words r)) behind_slots found.0 found.1.0)),
           found.1.1,
         ),
       )
@@ -114,7 +114,7 @@ module _ (r : RootsView) where
   owned_rooted w c above = let found = word_listed 1 false (owned_words r) w c above in (found.0, (behind_rooted found.0 (Contains-append_left (listed_as 1 false (owned_words r)) behind_owned found.0 found.1.0), found.1.1))
 
   slots_behind : (x : Root) → Contains behind_slots x → Contains (roots_of r) x
-  slots_behind x c = behind_rooted x (Contains-append_right (listed_as 1 false (owned_words r)) behind_owned x (Contains-append_right (listed_as 2 true (slot_words r)) behind_slots x c))
+  slots_behind x c = behind_rooted x (Contains-append_right (listed_as 1 false (owned_words r)) behind_owned x (Contains-append_right (listed_as 2 true (frame_slot_words r)) behind_slots x c))
 
   pub global_rooted : (w : ℕ) → Contains (global_words r) w → 0 < w → IsRooted w
   global_rooted w c above = let found = word_listed 3 false (global_words r) w c above in (found.0, (slots_behind found.0 (Contains-append_left (listed_as 3 false (global_words r)) (listed_as 4 false (r.pending ∷ [])) found.0 found.1.0), found.1.1))
@@ -203,9 +203,9 @@ module _ {D : Type 0} (layouts : Layouts) (s : StoreView D) (v : OwnerView D) (t
           let w = listed_word 1 false (owned_words v.roots) x one in
           let found = (owned-names place t.owns v.roots.owns t.owned v.roots.owned all_held holds.owned).back x.word w.0 w.1 in
           (found.0, (globals_in found.0 (Contains-append_right (slot_references t.globals) (owned_and_pending t) found.0 (Contains-append_left (owned_references t.owned) (present t.pending) found.0 found.1.0)), found.1.1))
-      | inr rest ↦ elim (Contains-append_cases (listed_as 2 true (slot_words v.roots)) (behind_slots v.roots) x rest) [
+      | inr rest ↦ elim (Contains-append_cases (listed_as 2 true (frame_slot_words v.roots)) (behind_slots v.roots) x rest) [
         | inl slot ↦
-            let w = listed_word 2 true (slot_words v.roots) x slot in
+            let w = listed_word 2 true (frame_slot_words v.roots) x slot in
             let among = subst (λ (ws : List ℕ). Contains ws x.word) (sym (frame_words v.roots.slots v.roots.frames in_frames)) w.0 in
             let found = (frames_named layouts store t place holds).back x.word among w.1 in
             (found.0, (Contains-append_right (scoped_references t) (from_frames t) found.0 (Contains-append_left (flat_map slot_references t.frames) (from_globals t) found.0 found.1.0), found.1.1))

@@ -7,7 +7,7 @@ use Rattle.gc_model.specs.Stores.{StoreView}
 use Rattle.gc_model.specs.Holds.{Holds, Placing}
 use Rattle.gc_model.specs.Words.{nowhere, placed_at}
 use Rattle.gc_model.specs.Gaps.{told}
-use Rattle.gc_policy.specs.Collects.{IsPlaced}
+use Rattle.gc_policy.specs.Collects.{HasPlace}
 
 -- The positions that the heap holds, each once; where they lie, of a counting heap, whose objects never move; the
 -- bytes that were allocated after its last collection, 0 before the first; how many allocations were counted; and
@@ -38,7 +38,7 @@ with_held layouts position word a = record a { held = a.held ++ position ∷ [];
 
 -- the account is that of the store, whose objects lie as the placing says
 pub record IsAccount {D : Type 0} (layouts : Layouts) (s : StoreView D) (place : Placing) (a : Account) : Type 0 where
-  pub held : AreAll (IsPlaced place) a.held
+  pub held : AreAll (HasPlace place) a.held
   pub places : (p : ℕ) → a.places p ≡ told layouts place p
   pub last : s.last ≡ a.last
   pub tries : s.tries ≡ a.tries

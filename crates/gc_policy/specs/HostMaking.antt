@@ -5,7 +5,7 @@ use Rattle.gc_types.specs.declared.kind.Layouts.{Layouts}
 use Rattle.gc_view.specs.Sizes.{external_size}
 use Rattle.gc_heap.specs.Objects.{external}
 use Rattle.gc_owner.specs.Growing.{OwnerState, owner_rules}
-use Rattle.gc_owner.specs.Makes.{AddsRooted}
+use Rattle.gc_owner.specs.Makes.{AddsScoped}
 use Rattle.gc_owner.specs.HostValues.{with_host}
 use Rattle.gc_owner.specs.Retry.{Retry}
 
@@ -17,5 +17,5 @@ pub record MadeHost {D : Type 0} (layouts : Layouts) (value : D) (s e : OwnerSta
   pub mid : OwnerState D
   pub retried : Retry (owner_rules layouts (external_size layouts)) s true mid
   pub fresh : get mid.owner.hosts id ≡ None
-  pub adds : AddsRooted layouts (with_host id value mid.owner) e.owner (external id) (external_size layouts) index
+  pub adds : AddsScoped layouts (with_host id value mid.owner) e.owner (external id) (external_size layouts) index
   pub limits : e.limits ≡ mid.limits

@@ -5,7 +5,7 @@ use Rattle.gc_types.specs.declared.kind.Layouts.TheVariants.{Null, Counting, Cop
 use Rattle.gc_types.specs.Layouts.{round_up}
 use Rattle.gc_model.specs.Table.{Table, make_heap, with_pages}
 use Rattle.gc_view.specs.Sizes.{alignment, need_of}
-pub use Rattle.gc_model.specs.Sizes.{block_of, block_at}
+pub use Rattle.gc_model.specs.Sizes.{block_bytes, block_bytes_at}
 use Rattle.gc_model.specs.Sizes.{next_place}
 use Rattle.gc_model.specs.Reach.{AreAll, IsKept}
 use Rattle.gc_model.specs.Gaps.{LiesAt, AreCut, IsGap, HasGap, IsFront}
@@ -28,8 +28,8 @@ policy_state t a limits = record { table = t; account = a; limits = limits }
 -- the first; else the objects' blocks, and in a copying heap that has any memory the first 16 of a half.
 abbrev pub allocated_bytes : {D : Type 0} → Layouts → Table D → List ℕ → ℕ
 allocated_bytes Null t held = next_place t - 1
-allocated_bytes Counting t held = sum (map (block_at Counting t) held)
-allocated_bytes Copying t held = if t.pages == 0 then 0 else skipped + sum (map (block_at Copying t) held)
+allocated_bytes Counting t held = sum (map (block_bytes_at Counting t) held)
+allocated_bytes Copying t held = if t.pages == 0 then 0 else skipped + sum (map (block_bytes_at Copying t) held)
 
 -- the heap holds a position, at a place that is told
 abbrev pub LiesNow : {D : Type 0} → PolicyState D → ℕ → ℕ → Type 0
@@ -39,7 +39,7 @@ LiesNow p position word = LiesAt p.account.places position word
 abbrev pub FitsNow : {D : Type 0} → Layouts → ℕ → PolicyState D → Type 0
 FitsNow Null size p = Fits p.table size
 FitsNow Counting size p = HasGap (LiesNow p) p.table size
-FitsNow Copying size p = skipped + sum (map (block_at Copying p.table) p.account.held) + round_up size alignment ≤ page / 2 * p.table.pages
+FitsNow Copying size p = skipped + sum (map (block_bytes_at Copying p.table) p.account.held) + round_up size alignment ≤ page / 2 * p.table.pages
 
 -- it has none
 abbrev pub LacksNow : {D : Type 0} → Layouts → ℕ → PolicyState D → Type 0
@@ -129,10 +129,10 @@ pub data Prepared {D : Type 0} (layouts : Layouts) (counter : Option ℕ) (size 
 
 -- A growth by so many bytes, and whether it was granted: one by none is granted and does nothing; else the heap
 -- is made and grows.
-pub data Expands {D : Type 0} (layouts : Layouts) (bytes : ℕ) (p : PolicyState D) : Bool → PolicyState D → Type 0 where
-  nothing : bytes ≡ 0 → Expands layouts bytes p true p
-  no_heap : {q : PolicyState D} → 0 < bytes → MakesTable p false q → Expands layouts bytes p false q
-  grows : {m q : PolicyState D} {granted : Bool} → 0 < bytes → MakesTable p true m → GrowsTable layouts bytes m granted q → Expands layouts bytes p granted q
+pub data ExpandsTable {D : Type 0} (layouts : Layouts) (bytes : ℕ) (p : PolicyState D) : Bool → PolicyState D → Type 0 where
+  nothing : bytes ≡ 0 → ExpandsTable layouts bytes p true p
+  no_heap : {q : PolicyState D} → 0 < bytes → MakesTable p false q → ExpandsTable layouts bytes p false q
+  grows : {m q : PolicyState D} {granted : Bool} → 0 < bytes → MakesTable p true m → GrowsTable layouts bytes m granted q → ExpandsTable layouts bytes p granted q
 
 -- a growth wanted memory on its way
 pub data Expanded {D : Type 0} (layouts : Layouts) (bytes : ℕ) (p : PolicyState D) : PolicyState D → Type 0 where

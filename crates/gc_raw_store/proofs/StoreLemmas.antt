@@ -15,11 +15,11 @@ use Rattle.gc_view.specs.Heaps.{Counts, HeapObject, HeapView}
 use Rattle.gc_memory.specs.Offsets.{external_size}
 use Rattle.gc_heap.specs.Content.{IsHeap}
 use Rattle.gc_heap.specs.Barriers.{CanName, CanUnname, cloned, copied, dropped, emptied, exposed, overwritten, raise, lower, show}
-use Rattle.gc_heap.specs.Heap.{AddsObject, Allocated, CanGiveBack, IsArray, IsStructOrExn, IsTooLarge, exn_or_struct, given_back}
+use Rattle.gc_heap.specs.Heap.{AddsObject, Allocated, CanGiveBack, IsArrayKind, IsStructOrExn, IsTooLarge, exn_or_struct, given_back}
 use Rattle.gc_heap.specs.Objects.{HasFields, external, host_id}
 use Rattle.gc_heap.specs.Collection.{has_host}
-use Rattle.gc_heap.specs.declared.heap.HeapFault.{HeapFault}
-use Rattle.gc_heap.specs.declared.heap.HeapFault.TheVariants as fault
+use Rattle.gc_heap.specs.declared.fault.HeapFault.{HeapFault}
+use Rattle.gc_heap.specs.declared.fault.HeapFault.TheVariants as fault
 use Rattle.gc_heap.proofs.MadeLemmas.{counted_place}
 use Rattle.gc_tables.specs.declared.slab.SlabFault.{SlabFault}
 use Rattle.gc_tables.specs.declared.slab.SlabFault.TheVariants as slab
@@ -115,10 +115,10 @@ module _ {D : Type 0} {was is : Type 0} (layouts : Layouts) (old new : HeapView)
       let can : CanGiveBack old place IsStructOrExn = subst (λ (v : GcStoreView D). CanGiveBack v.heap place IsStructOrExn) (sym was_seen) at in
       given_as place can.object can.held (given_other can.object.kind can.kind) (seen can.object can.held)
 
-  pub stored_given_array : (s : GcStoreView D) (place : ℕ) → record { heap = old; hosts = hosts } ≡ s → CanGiveBack s.heap place IsArray
+  pub stored_given_array : (s : GcStoreView D) (place : ℕ) → record { heap = old; hosts = hosts } ≡ s → CanGiveBack s.heap place IsArrayKind
       → ((o : HeapObject) → get old.content place ≡ Some o → new ≡ given_back layouts old place o) → IsStored is (record { heap = new; hosts = hosts })
   stored_given_array s place was_seen asks seen =
-      let can : CanGiveBack old place IsArray = subst (λ (v : GcStoreView D). CanGiveBack v.heap place IsArray) (sym was_seen) asks in
+      let can : CanGiveBack old place IsArrayKind = subst (λ (v : GcStoreView D). CanGiveBack v.heap place IsArrayKind) (sym was_seen) asks in
       given_as place can.object can.held (λ e. array_other (sym can.kind ∙ e)) (seen can.object can.held)
 
 -- An external object tells its host value.

@@ -5,8 +5,8 @@ use Rattle.gc_types.specs.declared.kind.Layouts.{Layouts}
 use Rattle.gc_memory.specs.Offsets.{external_size}
 use Rattle.gc_heap.specs.Objects.{external, host_id}
 use Rattle.gc_heap.specs.Heap.{AddsObject, LacksRoom}
-use Rattle.gc_heap.specs.declared.heap.HeapFault.{HeapFault}
-use Rattle.gc_heap.specs.declared.heap.HeapFault.TheVariants as fault
+use Rattle.gc_heap.specs.declared.fault.HeapFault.{HeapFault}
+use Rattle.gc_heap.specs.declared.fault.HeapFault.TheVariants as fault
 use Rattle.gc_raw_store.specs.Stores.{GcStoreView}
 
 -- An external object was added, with a host value under an id that no value had and that the object tells.

@@ -9,7 +9,7 @@ ghost use Rattle.gc_refs.specs.Header.{IsOfKind, spare_bits};
 ghost use Rattle.gc_view.specs.Heaps.{HeapObject};
 ghost use Rattle.gc_heap.specs.Objects.{first_offset, zeroed};
 ghost use Rattle.gc_heap.specs.Rules.{LayoutTraces, ArrayTraces};
-ghost use Rattle.gc_heap.specs.Heap.{Allocated, CanAllocate, CanGiveBack, IsArray, IsStructOrExn, array_size, given_back, layout_kind, new_array, new_struct};
+ghost use Rattle.gc_heap.specs.Heap.{Allocated, CanAllocate, CanGiveBack, IsArrayKind, IsStructOrExn, array_size, given_back, layout_kind, new_array, new_struct};
 
 use crate::store::GcStore;
 use gc_heap::{GcHeap, HeapFault};
@@ -77,7 +77,7 @@ impl<H: GcHeap, D: Drop> GcStore<H, D> {
 
     /// Gives back an array that nothing names, as `dealloc_uninit_struct` does a struct.
     pub fn dealloc_uninit_array(&mut self, array: VMArrayRef)
-        requires held { CanGiveBack self.old.heap array IsArray }
+        requires held { CanGiveBack self.old.heap array IsArrayKind }
         ensures { (o : HeapObject) → finite.get self.old.heap.content array ≡ Some o
             → self.new ≡ record self.old { heap = given_back H.KIND self.old.heap array o } }
     {

@@ -29,7 +29,7 @@ fn take_back<D: Drop>(hosts: &mut ExternRefHostDataTable<D>, id: ExternRefHostDa
 }
 
 impl<H: GcHeap, D: Drop> GcStore<H, D> {
-    ghost use Rattle.gc_raw_store.specs.HostLends.{lends_value, lends_host};
+    ghost use Rattle.gc_raw_store.specs.HostLends.{raw_lends_value, raw_lends_host};
 
     /// Allocates an external object for a host value. Where the heap has no room the value is handed back, with
     /// the number of bytes that the heap would have to grow by. The one fault that comes is `Memory`, which
@@ -80,7 +80,7 @@ impl<H: GcHeap, D: Drop> GcStore<H, D> {
 
     /// The host value under that id, for writing.
     fn host_mut(&mut self, id: ExternRefHostDataId) -> Option<&mut D>
-        ensures* writes_back { sem 𝓛 (lends_value H.row D.row H.State.row H.GcHeap self.entry id result) }
+        ensures* writes_back { sem 𝓛 (raw_lends_value H.row D.row H.State.row H.GcHeap self.entry id result) }
         ensures value { option_copied_mut result ≡ finite.get self.old.hosts id }
     {
         match self.hosts.get_mut(id) {
@@ -91,7 +91,7 @@ impl<H: GcHeap, D: Drop> GcStore<H, D> {
 
     /// Lends the host value of an external object for writing. `BadRef` as in `externref_host_data`.
     pub fn externref_host_data_mut(&mut self, r: &VMExternRef) -> Result<&mut D, RefFault>
-        ensures* writes_back { sem 𝓛 (lends_host H.row D.row H.State.row H.GcHeap self.entry r.now result) }
+        ensures* writes_back { sem 𝓛 (raw_lends_host H.row D.row H.State.row H.GcHeap self.entry r.now result) }
         ensures held { (o : HeapObject) → finite.get self.old.heap.content r.now ≡ Some o → o.kind ≡ ExternRef
             → IsOkAnd result (λ value. finite.get self.old.hosts (host_id o) ≡ Some value.now) }
         ensures number { r.now % 2 ≡ 1 → IsErr result }

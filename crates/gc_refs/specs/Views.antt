@@ -16,8 +16,8 @@ abbrev pub with_part : List ℕ → ℕ → List ℕ → List ℕ
 with_part bytes place part = take place bytes ++ (part ++ drop (place + length part) bytes)
 
 -- a read gives the number that the n bytes at the offset are, and refuses exactly where they aren't inside
-abbrev pub Reads : {A : Type 0} → ℕ → (List ℕ → A) → ℕ → List ℕ → ℕ → Result A DataFault → Type 0
-Reads n number first bytes offset result =
+abbrev pub ReadsNumber : {A : Type 0} → ℕ → (List ℕ → A) → ℕ → List ℕ → ℕ → Result A DataFault → Type 0
+ReadsNumber n number first bytes offset result =
     MatchResult result
     (λ value. IsInside first bytes offset n × (value ≡ number (part_of bytes (offset - first) n)))
     (λ _. ¬ (IsInside first bytes offset n))
@@ -37,8 +37,8 @@ LendsPartMut first bytes offset n result =
     (λ _. ¬ (IsInside first bytes offset n))
 
 -- a write puts the part at the offset and changes no other byte, and refuses exactly where it isn't inside
-abbrev pub Writes : {A : Type 0} → List ℕ → ℕ → List ℕ → List ℕ → ℕ → Result A DataFault → Type 0
-Writes part first before after offset result =
+abbrev pub WritesPart : {A : Type 0} → List ℕ → ℕ → List ℕ → List ℕ → ℕ → Result A DataFault → Type 0
+WritesPart part first before after offset result =
     MatchResult result
     (λ _. IsInside first before offset (length part) × (after ≡ with_part before (offset - first) part))
     (λ _. ¬ (IsInside first before offset (length part)) × (after ≡ before))

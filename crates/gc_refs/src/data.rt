@@ -3,7 +3,7 @@
 ghost use Rattle.std.specs.Prelude.{◌≡◌};
 ghost use Rattle.std.specs.Int.{w8, w16, w32, w64, w128};
 ghost use Rattle.gc_refs.specs.LittleEndian.{unsigned_at, signed_at};
-ghost use Rattle.gc_refs.specs.Views.{LendsPart, Reads};
+ghost use Rattle.gc_refs.specs.Views.{LendsPart, ReadsNumber};
 
 use crate::fault::DataFault;
 use crate::parts::{part, read_pod};
@@ -42,63 +42,63 @@ impl<'a> VMGcObjectData<'a> {
 
     /// The byte at an offset; `BadOffset` exactly where one of its bytes isn't inside.
     pub fn read_u8(&self, offset: u32) -> Result<u8, DataFault>
-        ensures { Reads 1 (unsigned_at w8) 0 self.now offset result }
+        ensures { ReadsNumber 1 (unsigned_at w8) 0 self.now offset result }
     {
         read_pod(0, self.bytes, offset)
     }
 
     /// The 16-bit number at an offset; `BadOffset` exactly where one of its bytes isn't inside.
     pub fn read_u16(&self, offset: u32) -> Result<u16, DataFault>
-        ensures { Reads 2 (unsigned_at w16) 0 self.now offset result }
+        ensures { ReadsNumber 2 (unsigned_at w16) 0 self.now offset result }
     {
         read_pod(0, self.bytes, offset)
     }
 
     /// The 32-bit number at an offset; `BadOffset` exactly where one of its bytes isn't inside.
     pub fn read_u32(&self, offset: u32) -> Result<u32, DataFault>
-        ensures { Reads 4 (unsigned_at w32) 0 self.now offset result }
+        ensures { ReadsNumber 4 (unsigned_at w32) 0 self.now offset result }
     {
         read_pod(0, self.bytes, offset)
     }
 
     /// The 64-bit number at an offset; `BadOffset` exactly where one of its bytes isn't inside.
     pub fn read_u64(&self, offset: u32) -> Result<u64, DataFault>
-        ensures { Reads 8 (unsigned_at w64) 0 self.now offset result }
+        ensures { ReadsNumber 8 (unsigned_at w64) 0 self.now offset result }
     {
         read_pod(0, self.bytes, offset)
     }
 
     /// The byte, as a signed number at an offset; `BadOffset` exactly where one of its bytes isn't inside.
     pub fn read_i8(&self, offset: u32) -> Result<i8, DataFault>
-        ensures { Reads 1 (signed_at w8) 0 self.now offset result }
+        ensures { ReadsNumber 1 (signed_at w8) 0 self.now offset result }
     {
         read_pod(0, self.bytes, offset)
     }
 
     /// The signed 16-bit number at an offset; `BadOffset` exactly where one of its bytes isn't inside.
     pub fn read_i16(&self, offset: u32) -> Result<i16, DataFault>
-        ensures { Reads 2 (signed_at w16) 0 self.now offset result }
+        ensures { ReadsNumber 2 (signed_at w16) 0 self.now offset result }
     {
         read_pod(0, self.bytes, offset)
     }
 
     /// The signed 32-bit number at an offset; `BadOffset` exactly where one of its bytes isn't inside.
     pub fn read_i32(&self, offset: u32) -> Result<i32, DataFault>
-        ensures { Reads 4 (signed_at w32) 0 self.now offset result }
+        ensures { ReadsNumber 4 (signed_at w32) 0 self.now offset result }
     {
         read_pod(0, self.bytes, offset)
     }
 
     /// The signed 64-bit number at an offset; `BadOffset` exactly where one of its bytes isn't inside.
     pub fn read_i64(&self, offset: u32) -> Result<i64, DataFault>
-        ensures { Reads 8 (signed_at w64) 0 self.now offset result }
+        ensures { ReadsNumber 8 (signed_at w64) 0 self.now offset result }
     {
         read_pod(0, self.bytes, offset)
     }
 
     /// The vector value at an offset; `BadOffset` exactly where one of its bytes isn't inside.
     pub fn read_v128(&self, offset: u32) -> Result<V128, DataFault>
-        ensures { Reads 16 (unsigned_at w128) 0 self.now offset result }
+        ensures { ReadsNumber 16 (unsigned_at w128) 0 self.now offset result }
     {
         read_pod(0, self.bytes, offset)
     }

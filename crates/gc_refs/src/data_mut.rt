@@ -3,7 +3,7 @@
 ghost use Rattle.std.specs.Prelude.{◌≡◌, ◌+◌, ◌<◌, ◌^◌, length};
 ghost use Rattle.std.specs.Int.{w8, w16, w32, w64, w128};
 ghost use Rattle.gc_refs.specs.LittleEndian.{unsigned_at, signed_at, unsigned_bytes, signed_bytes};
-ghost use Rattle.gc_refs.specs.Views.{LendsPart, LendsPartMut, Reads, Writes, Copies};
+ghost use Rattle.gc_refs.specs.Views.{LendsPart, LendsPartMut, ReadsNumber, WritesPart, Copies};
 
 use crate::fault::DataFault;
 use crate::parts::{copy_part, part, place_of, read_pod, write_part, write_pod};
@@ -62,7 +62,7 @@ impl<'a> VMGcObjectDataMut<'a> {
 
     /// Writes these bytes at an offset; `BadOffset` exactly where they aren't all inside.
     pub fn copy_from_slice(&mut self, offset: u32, src: &[u8]) -> Result<(), DataFault>
-        ensures bytes { Writes src.now self.old.first self.old.bytes.now self.new.bytes.now offset result }
+        ensures bytes { WritesPart src.now self.old.first self.old.bytes.now self.new.bytes.now offset result }
         ensures same_view { IsSameView self.old self.new }
     {
         write_part(self.first, &mut *self.bytes, offset, src)
@@ -79,70 +79,70 @@ impl<'a> VMGcObjectDataMut<'a> {
 
     /// The byte at an offset; `BadOffset` exactly where one of its bytes isn't inside.
     pub fn read_u8(&self, offset: u32) -> Result<u8, DataFault>
-        ensures { Reads 1 (unsigned_at w8) self.now.first self.now.bytes.now offset result }
+        ensures { ReadsNumber 1 (unsigned_at w8) self.now.first self.now.bytes.now offset result }
     {
         read_pod(self.first, &*self.bytes, offset)
     }
 
     /// The 16-bit number at an offset; `BadOffset` exactly where one of its bytes isn't inside.
     pub fn read_u16(&self, offset: u32) -> Result<u16, DataFault>
-        ensures { Reads 2 (unsigned_at w16) self.now.first self.now.bytes.now offset result }
+        ensures { ReadsNumber 2 (unsigned_at w16) self.now.first self.now.bytes.now offset result }
     {
         read_pod(self.first, &*self.bytes, offset)
     }
 
     /// The 32-bit number at an offset; `BadOffset` exactly where one of its bytes isn't inside.
     pub fn read_u32(&self, offset: u32) -> Result<u32, DataFault>
-        ensures { Reads 4 (unsigned_at w32) self.now.first self.now.bytes.now offset result }
+        ensures { ReadsNumber 4 (unsigned_at w32) self.now.first self.now.bytes.now offset result }
     {
         read_pod(self.first, &*self.bytes, offset)
     }
 
     /// The 64-bit number at an offset; `BadOffset` exactly where one of its bytes isn't inside.
     pub fn read_u64(&self, offset: u32) -> Result<u64, DataFault>
-        ensures { Reads 8 (unsigned_at w64) self.now.first self.now.bytes.now offset result }
+        ensures { ReadsNumber 8 (unsigned_at w64) self.now.first self.now.bytes.now offset result }
     {
         read_pod(self.first, &*self.bytes, offset)
     }
 
     /// The byte, as a signed number at an offset; `BadOffset` exactly where one of its bytes isn't inside.
     pub fn read_i8(&self, offset: u32) -> Result<i8, DataFault>
-        ensures { Reads 1 (signed_at w8) self.now.first self.now.bytes.now offset result }
+        ensures { ReadsNumber 1 (signed_at w8) self.now.first self.now.bytes.now offset result }
     {
         read_pod(self.first, &*self.bytes, offset)
     }
 
     /// The signed 16-bit number at an offset; `BadOffset` exactly where one of its bytes isn't inside.
     pub fn read_i16(&self, offset: u32) -> Result<i16, DataFault>
-        ensures { Reads 2 (signed_at w16) self.now.first self.now.bytes.now offset result }
+        ensures { ReadsNumber 2 (signed_at w16) self.now.first self.now.bytes.now offset result }
     {
         read_pod(self.first, &*self.bytes, offset)
     }
 
     /// The signed 32-bit number at an offset; `BadOffset` exactly where one of its bytes isn't inside.
     pub fn read_i32(&self, offset: u32) -> Result<i32, DataFault>
-        ensures { Reads 4 (signed_at w32) self.now.first self.now.bytes.now offset result }
+        ensures { ReadsNumber 4 (signed_at w32) self.now.first self.now.bytes.now offset result }
     {
         read_pod(self.first, &*self.bytes, offset)
     }
 
     /// The signed 64-bit number at an offset; `BadOffset` exactly where one of its bytes isn't inside.
     pub fn read_i64(&self, offset: u32) -> Result<i64, DataFault>
-        ensures { Reads 8 (signed_at w64) self.now.first self.now.bytes.now offset result }
+        ensures { ReadsNumber 8 (signed_at w64) self.now.first self.now.bytes.now offset result }
     {
         read_pod(self.first, &*self.bytes, offset)
     }
 
     /// The vector value at an offset; `BadOffset` exactly where one of its bytes isn't inside.
     pub fn read_v128(&self, offset: u32) -> Result<V128, DataFault>
-        ensures { Reads 16 (unsigned_at w128) self.now.first self.now.bytes.now offset result }
+        ensures { ReadsNumber 16 (unsigned_at w128) self.now.first self.now.bytes.now offset result }
     {
         read_pod(self.first, &*self.bytes, offset)
     }
 
     /// Writes a byte at an offset; `BadOffset` exactly where one of its bytes isn't inside.
     pub fn write_u8(&mut self, offset: u32, val: u8) -> Result<(), DataFault>
-        ensures bytes { Writes (unsigned_bytes w8 val) self.old.first self.old.bytes.now self.new.bytes.now offset result }
+        ensures bytes { WritesPart (unsigned_bytes w8 val) self.old.first self.old.bytes.now self.new.bytes.now offset result }
         ensures same_view { IsSameView self.old self.new }
     {
         write_pod(self.first, &mut *self.bytes, offset, val)
@@ -150,7 +150,7 @@ impl<'a> VMGcObjectDataMut<'a> {
 
     /// Writes a 16-bit number at an offset; `BadOffset` exactly where one of its bytes isn't inside.
     pub fn write_u16(&mut self, offset: u32, val: u16) -> Result<(), DataFault>
-        ensures bytes { Writes (unsigned_bytes w16 val) self.old.first self.old.bytes.now self.new.bytes.now offset result }
+        ensures bytes { WritesPart (unsigned_bytes w16 val) self.old.first self.old.bytes.now self.new.bytes.now offset result }
         ensures same_view { IsSameView self.old self.new }
     {
         write_pod(self.first, &mut *self.bytes, offset, val)
@@ -158,7 +158,7 @@ impl<'a> VMGcObjectDataMut<'a> {
 
     /// Writes a 32-bit number at an offset; `BadOffset` exactly where one of its bytes isn't inside.
     pub fn write_u32(&mut self, offset: u32, val: u32) -> Result<(), DataFault>
-        ensures bytes { Writes (unsigned_bytes w32 val) self.old.first self.old.bytes.now self.new.bytes.now offset result }
+        ensures bytes { WritesPart (unsigned_bytes w32 val) self.old.first self.old.bytes.now self.new.bytes.now offset result }
         ensures same_view { IsSameView self.old self.new }
     {
         write_pod(self.first, &mut *self.bytes, offset, val)
@@ -166,7 +166,7 @@ impl<'a> VMGcObjectDataMut<'a> {
 
     /// Writes a 64-bit number at an offset; `BadOffset` exactly where one of its bytes isn't inside.
     pub fn write_u64(&mut self, offset: u32, val: u64) -> Result<(), DataFault>
-        ensures bytes { Writes (unsigned_bytes w64 val) self.old.first self.old.bytes.now self.new.bytes.now offset result }
+        ensures bytes { WritesPart (unsigned_bytes w64 val) self.old.first self.old.bytes.now self.new.bytes.now offset result }
         ensures same_view { IsSameView self.old self.new }
     {
         write_pod(self.first, &mut *self.bytes, offset, val)
@@ -174,7 +174,7 @@ impl<'a> VMGcObjectDataMut<'a> {
 
     /// Writes a byte, as a signed number at an offset; `BadOffset` exactly where one of its bytes isn't inside.
     pub fn write_i8(&mut self, offset: u32, val: i8) -> Result<(), DataFault>
-        ensures bytes { Writes (signed_bytes w8 val) self.old.first self.old.bytes.now self.new.bytes.now offset result }
+        ensures bytes { WritesPart (signed_bytes w8 val) self.old.first self.old.bytes.now self.new.bytes.now offset result }
         ensures same_view { IsSameView self.old self.new }
     {
         write_pod(self.first, &mut *self.bytes, offset, val)
@@ -182,7 +182,7 @@ impl<'a> VMGcObjectDataMut<'a> {
 
     /// Writes a signed 16-bit number at an offset; `BadOffset` exactly where one of its bytes isn't inside.
     pub fn write_i16(&mut self, offset: u32, val: i16) -> Result<(), DataFault>
-        ensures bytes { Writes (signed_bytes w16 val) self.old.first self.old.bytes.now self.new.bytes.now offset result }
+        ensures bytes { WritesPart (signed_bytes w16 val) self.old.first self.old.bytes.now self.new.bytes.now offset result }
         ensures same_view { IsSameView self.old self.new }
     {
         write_pod(self.first, &mut *self.bytes, offset, val)
@@ -190,7 +190,7 @@ impl<'a> VMGcObjectDataMut<'a> {
 
     /// Writes a signed 32-bit number at an offset; `BadOffset` exactly where one of its bytes isn't inside.
     pub fn write_i32(&mut self, offset: u32, val: i32) -> Result<(), DataFault>
-        ensures bytes { Writes (signed_bytes w32 val) self.old.first self.old.bytes.now self.new.bytes.now offset result }
+        ensures bytes { WritesPart (signed_bytes w32 val) self.old.first self.old.bytes.now self.new.bytes.now offset result }
         ensures same_view { IsSameView self.old self.new }
     {
         write_pod(self.first, &mut *self.bytes, offset, val)
@@ -198,7 +198,7 @@ impl<'a> VMGcObjectDataMut<'a> {
 
     /// Writes a signed 64-bit number at an offset; `BadOffset` exactly where one of its bytes isn't inside.
     pub fn write_i64(&mut self, offset: u32, val: i64) -> Result<(), DataFault>
-        ensures bytes { Writes (signed_bytes w64 val) self.old.first self.old.bytes.now self.new.bytes.now offset result }
+        ensures bytes { WritesPart (signed_bytes w64 val) self.old.first self.old.bytes.now self.new.bytes.now offset result }
         ensures same_view { IsSameView self.old self.new }
     {
         write_pod(self.first, &mut *self.bytes, offset, val)
@@ -206,7 +206,7 @@ impl<'a> VMGcObjectDataMut<'a> {
 
     /// Writes a vector value at an offset; `BadOffset` exactly where one of its bytes isn't inside.
     pub fn write_v128(&mut self, offset: u32, val: V128) -> Result<(), DataFault>
-        ensures bytes { Writes (unsigned_bytes w128 val) self.old.first self.old.bytes.now self.new.bytes.now offset result }
+        ensures bytes { WritesPart (unsigned_bytes w128 val) self.old.first self.old.bytes.now self.new.bytes.now offset result }
         ensures same_view { IsSameView self.old self.new }
     {
         write_pod(self.first, &mut *self.bytes, offset, val)

@@ -1,7 +1,7 @@
 //! Ranges of bytes whose first byte has an offset.
 
 ghost use Rattle.std.specs.Prelude.{◌≡◌, ◌+◌, ◌-◌, ◌<◌, ◌≤◌, ◌^◌, length, MatchResult, OkIff};
-ghost use Rattle.gc_refs.specs.Views.{IsInside, part_of, with_part, Reads, LendsPart, Writes, Copies};
+ghost use Rattle.gc_refs.specs.Views.{IsInside, part_of, with_part, ReadsNumber, LendsPart, WritesPart, Copies};
 
 use crate::fault::DataFault;
 use crate::pod::PodValType;
@@ -46,7 +46,7 @@ pub(crate) fn read_pod<const N: usize, T: PodValType<N>>(
     offset: u32,
 ) -> Result<T, DataFault>
     requires { N ≤ 16 }
-    ensures { Reads N T.number_of first bytes.now offset result }
+    ensures { ReadsNumber N T.number_of first bytes.now offset result }
 {
     match place_of(first, bytes, offset, N) {
         Ok(place) => Ok(T::read_le(bytes[place..].first_chunk().unwrap())),
@@ -61,7 +61,7 @@ pub(crate) fn write_part(
     offset: u32,
     part: &[u8],
 ) -> Result<(), DataFault>
-    ensures { Writes part.now first bytes.old bytes.new offset result }
+    ensures { WritesPart part.now first bytes.old bytes.new offset result }
 {
     match place_of(first, bytes, offset, part.len()) {
         Ok(place) => {
@@ -80,7 +80,7 @@ pub(crate) fn write_pod<const N: usize, T: PodValType<N>>(
     value: T,
 ) -> Result<(), DataFault>
     requires { N ≤ 16 }
-    ensures { Writes (T.bytes_of value) first bytes.old bytes.new offset result }
+    ensures { WritesPart (T.bytes_of value) first bytes.old bytes.new offset result }
 {
     let mut number = [0; N];
     value.write_le(&mut number);

@@ -14,12 +14,12 @@ use Rattle.gc_values.specs.declared.root.RootedObject.{RootedObject}
 use Rattle.gc_values.specs.declared.root.RootedObject.TheVariants as rooted_object
 use Rattle.gc_store.specs.Roots.{IsReference}
 
-abbrev pub is_exception : RootedObject → Bool
-is_exception (rooted_object.I31 number) = false
-is_exception (rooted_object.Struct ty) = false
-is_exception (rooted_object.Array ty count) = false
-is_exception rooted_object.Host = false
-is_exception (rooted_object.Exn ty tag) = true
+abbrev pub is_rooted_exception : RootedObject → Bool
+is_rooted_exception (rooted_object.I31 number) = false
+is_rooted_exception (rooted_object.Struct ty) = false
+is_rooted_exception (rooted_object.Array ty count) = false
+is_rooted_exception rooted_object.Host = false
+is_rooted_exception (rooted_object.Exn ty tag) = true
 
 -- What a root names is of class any, and of a kind there. A 31-bit number is compared by what it is, and so of the kind of
 -- what can be compared.
@@ -33,8 +33,8 @@ IsAnyOfKind kind (rooted_object.Exn ty tag) = ⊥
 -- what a root names is of a marker's class, and of its kind where the class has more than one
 abbrev pub IsOfMark : GcClass → VMGcKind → RootedObject → Type 0
 IsOfMark Any kind object = IsAnyOfKind kind object
-IsOfMark Extern kind object = is_exception object ≡ false
-IsOfMark Exn kind object = is_exception object ≡ true
+IsOfMark Extern kind object = is_rooted_exception object ≡ false
+IsOfMark Exn kind object = is_rooted_exception object ≡ true
 
 -- a reference of the table is so
 abbrev pub IsMarked : {D : Type 0} → GcClass → VMGcKind → Table D → Reference → Type 0

@@ -1,7 +1,6 @@
 //! Hashes of roots, and of what they name.
 
 ghost use Rattle.std.specs.Prelude.{◌≡◌, true, false, Ok, Err, OnErr};
-ghost use Rattle.std.specs.List.{fold};
 ghost use Rattle.gc_model.specs.Values.{Reference};
 ghost use Rattle.gc_model.specs.Table.{Table};
 ghost use Rattle.gc_model.specs.Reads.{same_reference};
@@ -9,12 +8,10 @@ ghost use Rattle.gc_model.specs.Holds.{HoldsTable, Holds, Placing};
 ghost use Rattle.gc_rooted.specs.Hashes.{HashesReference};
 ghost use Rattle.gc_store.specs.Roots.{is_of_store, NamesReference, NamesNothing};
 
-use crate::owned_rooted::OwnedRooted;
-use crate::rooted::{GcRef, Rooted, RootedGcRef};
 use gc_heap::GcHeap;
 use gc_store::Store;
 use gc_values::root::{GcRootIndex, RootFault};
-use std::hash::{Hash, Hasher};
+use std::hash::Hasher;
 
 /// Feeds a hasher what a handle names. `WrongStore` where it is another store's, then `Unrooted` where it isn't live.
 pub(crate) fn hash_named<H: GcHeap, D: Drop, S: Hasher>(
@@ -35,24 +32,6 @@ pub(crate) fn hash_named<H: GcHeap, D: Drop, S: Hasher>(
             Ok(())
         }
         Err(fault) => Err(fault),
-    }
-}
-
-impl<T: GcRef> Rooted<T> {
-    /// Feeds a hasher the root: handles of one root feed it alike.
-    pub fn rooted_hash<S: Hasher>(&self, state: &mut S)
-        ensures { state.new ≡ fold S.write state.old (⟦<GcRootIndex as Hash>⟧.hash_input self.now.index) }
-    {
-        self.root_index().hash(state);
-    }
-}
-
-impl<T: GcRef> OwnedRooted<T> {
-    /// Feeds a hasher the root, as `Rooted::rooted_hash` does.
-    pub fn rooted_hash<S: Hasher>(&self, state: &mut S)
-        ensures { state.new ≡ fold S.write state.old (⟦<GcRootIndex as Hash>⟧.hash_input self.now.index) }
-    {
-        self.root_index().hash(state);
     }
 }
 

@@ -15,8 +15,8 @@ ghost use Rattle.gc_heap.specs.Content.{IsHeap};
 ghost use Rattle.gc_heap.specs.Heap.{HasRoom, grown};
 ghost use Rattle.gc_owner.specs.Growing.{pages_of};
 ghost use Rattle.gc_model.specs.Stores.{StoreView};
-ghost use Rattle.gc_store.specs.Roots.{Names, NamesReference, NamesSame};
-ghost use Rattle.gc_owner.specs.Owners.{kind_of};
+ghost use Rattle.gc_store.specs.Roots.{NamesSerial, NamesReference, NamesSame};
+ghost use Rattle.gc_owner.specs.Owners.{heap_kind};
 ghost use Rattle.gc_store.specs.Collectings.{IsOpen, IsClosed, IsCollected, IsTrimmedStore, TakesAsMany};
 ghost use Rattle.gc_store.specs.Stores.{IsSameStore};
 ghost use Rattle.gc_values.specs.declared.root.GcRootIndex.{GcRootIndex};
@@ -26,7 +26,7 @@ use gc_store::{Collecting, Store};
 
 /// A handle names one push for ever: no two pushes of a store have the same index and generation.
 pub fn handles_name_one_root<H: GcHeap, D: Drop>(store: &Store<H, D>)
-    ensures { (t : Table D) (handle : GcRootIndex) (x y : ℕ) → HoldsTable H.KIND store.now t → Names store.now t handle x → Names store.now t handle y → x ≡ y }
+    ensures { (t : Table D) (handle : GcRootIndex) (x y : ℕ) → HoldsTable H.KIND store.now t → NamesSerial store.now t handle x → NamesSerial store.now t handle y → x ≡ y }
 {}
 
 /// That two handles are live and name the same reference is an equivalence, and no collection changes it: a handle, scoped
@@ -84,9 +84,9 @@ pub fn a_start_only_trims<H: GcHeap + Drop, D: Drop>(store: &mut Store<H, D>)
 /// Does the increments of a collection of which none was done, and says how many there were.
 fn count_increments<H: GcHeap + Drop, D: Drop>(collecting: &mut Collecting<'_, H, D>) -> u64
     ensures same_reference { collecting.new.home.ghost_name ≡ collecting.old.home.ghost_name }
-    ensures closes { (old : StoreView D) → IsOpen (kind_of H.KIND H.seen H.sound H.under_way) old 0 true collecting.old.inside
-        → IsClosed (kind_of H.KIND H.seen H.sound H.under_way) old collecting.new.inside }
-    ensures counted { (old : StoreView D) → IsOpen (kind_of H.KIND H.seen H.sound H.under_way) old 0 true collecting.old.inside
+    ensures closes { (old : StoreView D) → IsOpen (heap_kind H.KIND H.seen H.sound H.under_way) old 0 true collecting.old.inside
+        → IsClosed (heap_kind H.KIND H.seen H.sound H.under_way) old collecting.new.inside }
+    ensures counted { (old : StoreView D) → IsOpen (heap_kind H.KIND H.seen H.sound H.under_way) old 0 true collecting.old.inside
         → (n : ℕ) × (TakesAsMany H.KIND old n × (result ≡ min n (2 ^ 64 - 1))) }
 {
     match collecting.collect_increment() {

@@ -6,7 +6,7 @@ ghost use Rattle.gc_model.specs.Table.{Table};
 ghost use Rattle.gc_model.specs.Reads.{same_reference};
 ghost use Rattle.gc_model.specs.Holds.{HoldsTable};
 ghost use Rattle.gc_store.specs.Kinds.{IsScopedOfKind};
-ghost use Rattle.gc_rooted.specs.Marks.{is_exception, IsAnyOfKind, IsOfMark, FindsMarked};
+ghost use Rattle.gc_rooted.specs.Marks.{is_rooted_exception, IsAnyOfKind, IsOfMark, FindsMarked};
 ghost use Rattle.gc_store.specs.Roots.{is_of_store, NamesReference, NamesNothing};
 
 use crate::hashes::hash_named;
@@ -15,7 +15,7 @@ use gc_owner::GcClass;
 use gc_store::Store;
 use gc_types::VMGcKind;
 use gc_values::root::{GcRootIndex, RootFault, RootSlot, RootedObject};
-use std::hash::Hasher;
+use std::hash::{Hash, Hasher};
 use std::marker::PhantomData;
 
 /// A type of references that handles are marked with: its class, and the kind of the objects that it is the
@@ -36,6 +36,7 @@ pub trait GcRef {
 /// A handle that names a root of a store.
 pub trait RootedGcRef<T: GcRef> {
     ghost use Rattle.std.specs.Prelude.{◌≡◌, true, false, Err, OnErr};
+    ghost use Rattle.std.specs.List.{fold};
     ghost use Rattle.gc_model.specs.Values.{Reference};
     ghost use Rattle.gc_model.specs.Table.{Table};
     ghost use Rattle.gc_model.specs.Holds.{HoldsTable, Holds, Placing};
@@ -66,6 +67,13 @@ pub trait RootedGcRef<T: GcRef> {
     {
         hash_named(store, self.root_index(), state)
     }
+
+    /// Feeds a hasher the root that it names: handles of one root feed it alike.
+    final fn rooted_hash<S: Hasher>(&self, state: &mut S)
+        ensures { state.new ≡ fold S.write state.old (⟦<GcRootIndex as Hash>⟧.hash_input (index self.now)) }
+    {
+        self.root_index().hash(state);
+    }
 }
 
 /// A handle of a scoped root. It is live as long as its scope isn't left.
@@ -85,7 +93,7 @@ impl<T: GcRef> RootedGcRef<T> for Rooted<T> {
 
 /// Whether what a root names is an exception.
 fn is_exception(object: &RootedObject) -> bool
-    ensures { result ≡ is_exception object.now }
+    ensures { result ≡ is_rooted_exception object.now }
 {
     match object {
         RootedObject::I31(_) => false,

@@ -8,7 +8,7 @@ abbrev pub root_of : Origin → ℕ → Root
 root_of origin word = root origin.place.number origin.is_on_wasm_stack word
 
 -- the roots of two lists that are equally long
-abbrev pub roots_of : List Origin → List ℕ → List Root
-roots_of [] words = []
-roots_of (origin ∷ origins) [] = []
-roots_of (origin ∷ origins) (word ∷ words) = root_of origin word ∷ roots_of origins words
+abbrev pub paired_roots : List Origin → List ℕ → List Root
+paired_roots [] words = []
+paired_roots (origin ∷ origins) [] = []
+paired_roots (origin ∷ origins) (word ∷ words) = root_of origin word ∷ paired_roots origins words

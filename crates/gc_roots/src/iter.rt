@@ -2,8 +2,8 @@
 
 ghost use Rattle.std.specs.Prelude.{◌≡◌, length};
 ghost use Rattle.std.specs.Slice.Iter.{iter_mut_name};
-ghost use Rattle.gc_roots.specs.Columns.{roots_of};
-ghost use Rattle.gc_roots.specs.Lends.{shown, rest_of};
+ghost use Rattle.gc_roots.specs.Columns.{paired_roots};
+ghost use Rattle.gc_roots.specs.Lends.{lent_root, rest_of};
 
 use crate::entry::{GcRoot, Origin};
 use gc_refs::VMGcRef;
@@ -18,7 +18,7 @@ pub struct GcRootsIter<'a> {
 
 impl<'a> GcRootsIter<'a> {
     pub(crate) fn new(origins: &'a [Origin], words: &'a mut [VMGcRef]) -> GcRootsIter<'a>
-        ensures rest { rest_of result ≡ roots_of origins.now words.old }
+        ensures rest { rest_of result ≡ paired_roots origins.now words.old }
         ensures lent { iter_mut_name result.words ≡ words.entry.ghost_name }
     {
         GcRootsIter {
@@ -33,7 +33,7 @@ impl<'a> Iterator for GcRootsIter<'a> {
 
     ghost use Rattle.std.specs.Iterator.{YieldsFirstBy, item_count};
 
-    ghost next_gives = { YieldsFirstBy shown rest_of };
+    ghost next_gives = { YieldsFirstBy lent_root rest_of };
 
     ghost remaining = { item_count rest_of };
 

@@ -12,9 +12,9 @@
 mod entry;
 mod iter;
 mod list;
-mod place;
+mod root_place;
 
 pub use entry::GcRoot;
 pub use iter::GcRootsIter;
 pub use list::GcRootsList;
-pub use place::RootPlace;
+pub use root_place::RootPlace;

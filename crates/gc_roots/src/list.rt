@@ -6,7 +6,7 @@ ghost use Rattle.gc_roots.specs.Roots.{root, root_at, with_word_at};
 
 use crate::entry::Origin;
 use crate::iter::GcRootsIter;
-use crate::place::RootPlace;
+use crate::root_place::RootPlace;
 use gc_refs::VMGcRef;
 use std::alloc::{AllocError, Global};
 use std::marker::Model;
@@ -28,10 +28,10 @@ impl Model for GcRootsList {
 
     ghost Value = { Roots };
 
-    ghost use Rattle.gc_roots.specs.Columns.{roots_of};
+    ghost use Rattle.gc_roots.specs.Columns.{paired_roots};
 
     ghost view = { λ l. record {
-      roots = roots_of l.origins.items l.words.items;
+      roots = paired_roots l.origins.items l.words.items;
       spare = min (vec_capacity l.origins) (vec_capacity l.words) - vec_len l.words;
     } };
 

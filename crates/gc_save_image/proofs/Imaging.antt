@@ -25,18 +25,18 @@ use Rattle.gc_image.specs.declared.image.ObjectLine.TheVariants as object
 use Rattle.gc_image.specs.Images.{AreGlobals, Images, ImagesText, SaysSlot, placed_object, placed_value}
 use Rattle.gc_image.specs.Parts.{ImageParts}
 use Rattle.gc_image.specs.Text.{FitsImage, FitsObject}
-use Rattle.gc_image.specs.Well.{AreReached, AreRising, AreWellGlobals, AreWellObjects, HasShape, HoldsReference, IsHeld, IsWellGlobal, IsWellValue, as_object, as_value, line_values, number_named}
+use Rattle.gc_image.specs.Well.{GlobalsReachAll, AreRising, AreWellGlobals, AreWellObjects, HasShape, HoldsReference, GlobalHolds, IsWellGlobal, IsWellValue, as_object, as_value, line_values, number_named}
 use Rattle.gc_image.proofs.AlikeLemmas.{element_at}
 use Rattle.gc_image_collect.specs.Collection.{IsCollection}
 use Rattle.gc_image_collect.specs.declared.collect.Collected.{Collected}
 use Rattle.gc_image_write.specs.Graphs.{graph_of}
 use Rattle.gc_image_write.specs.InTurn.{IsInTurn}
-use Rattle.gc_image_write.specs.Order.{AreClosed, IsBelow, IsOrder, early_in, early_named, early_of, is_early_in}
-use Rattle.gc_image_write.specs.TypeWords.{AreCommandsOf}
+use Rattle.gc_image_write.specs.Order.{AreClosed, NamesBelow, IsOrder, early_in, early_named, early_of, is_early_in}
+use Rattle.gc_image_write.specs.TypeWords.{AreTypeCommands}
 use Rattle.gc_image_write.specs.Visiting.{IsNumbering}
 use Rattle.gc_image_write.proofs.RenumberLemmas.{in_turn}
 use Rattle.gc_save_image.specs.Keeping.{AreKept, IsKeptIn}
-use Rattle.gc_save_image.specs.Renumbering.{AreNumbersOf, IsWritten, image_by, line_at, number_in, renumbered_global, renumbered_line, renumbered_value, reordered}
+use Rattle.gc_save_image.specs.Renumbering.{AreNumbersOf, IsWritten, image_by, line_at, new_number_in, renumbered_global, renumbered_line, renumbered_value, reordered}
 use Rattle.gc_save_image.proofs.Elements.{all_each, map_at, mapped}
 use Rattle.gc_save_image.proofs.FitsPlaced.{fits_placed}
 use Rattle.gc_save_image.proofs.Numbering.{LineAt, all, goes, line_of, number_is, object_is, position, position_is, positions}
@@ -85,7 +85,7 @@ names_at (value.Ref own (image_reference.Object k)) class r n e is = ap Some (sa
     same own class k n e = cc e
 
 -- what a global's line names is an object
-pub holds_below : (count : ℕ) (v : ImageValue) → HoldsReference count v → IsBelow count v
+pub holds_below : (count : ℕ) (v : ImageValue) → HoldsReference count v → NamesBelow count v
 holds_below count (value.Ref k image_reference.Null) holds n named = absurd (none-some n named)
 holds_below count (value.Ref k (image_reference.Small m)) holds n named = absurd (none-some n named)
 holds_below count (value.Ref class.Any (image_reference.Object m)) holds n named = subst (λ k. k < count) (same_Some m n named) holds
@@ -104,7 +104,7 @@ module _ (t : Table ℕ) (collected : Collected) (c : IsCollection t collected) 
   early = early_named t.types collected.objects.items
 
   abbrev number : ℕ → ℕ
-  number = number_in numbers
+  number = new_number_in numbers
 
   abbrev lines : List ObjectLine
   lines = reordered number collected.objects.items order
@@ -209,7 +209,7 @@ module _ (t : Table ℕ) (collected : Collected) (c : IsCollection t collected) 
   holds_again (value.F64 n) holds = absurd holds
   holds_again (value.V128 n) holds = absurd holds
 
-  global_named : (i : ℕ) (line : GlobalLine) → slice_get collected.globals.items i ≡ Some line → IsBelow (length collected.objects.items) line.value
+  global_named : (i : ℕ) (line : GlobalLine) → slice_get collected.globals.items i ≡ Some line → NamesBelow (length collected.objects.items) line.value
   global_named i line e = λ n named. (let small = holds_below (length c.positions) line.value (c.well i line e).1 n named in let same = c.numbered in omega (arith, small, same))
 
   globals_well : AreWellGlobals (length lines) globals
@@ -225,7 +225,7 @@ module _ (t : Table ℕ) (collected : Collected) (c : IsCollection t collected) 
       subst (λ k. k < next.index) (ap (λ (g : GlobalLine). g.index) a.is)
       (subst (λ k. a.of.index < k) (ap (λ (g : GlobalLine). g.index) b.is) (c.rising i a.of b.of a.there b.there))
 
-  says_again : (v : ImageValue) (slot : Slot) → IsBelow (length collected.objects.items) v → SaysSlot c.position v slot → SaysSlot place (renumbered_value number v) slot
+  says_again : (v : ImageValue) (slot : Slot) → NamesBelow (length collected.objects.items) v → SaysSlot c.position v slot → SaysSlot place (renumbered_value number v) slot
   says_again (value.Ref k r) slot below says =
       says
       ∙ ap (λ (x : Reference). record { class = k; reference = x })
@@ -246,10 +246,10 @@ module _ (t : Table ℕ) (collected : Collected) (c : IsCollection t collected) 
     unsaid = λ k slot e none. c.globals.unsaid k slot e (λ i line at_line. none i (renumbered_global number line) (map_at (renumbered_global number) collected.globals.items i line at_line));
   }
 
-  held : (n : ℕ) → IsHeld globals n → n < length lines
+  held : (n : ℕ) → GlobalHolds globals n → n < length lines
   held n is = holds_below (length lines) is.1.value (globals_well is.0 is.1 is.2.0).1 n is.2.1
 
-  reached : AreReached lines globals
+  reached : GlobalsReachAll lines globals
   reached n below =
       let p = element_at places n (let same = numbered in omega (arith, below, same)) in
       let are_all = all t collected c early order numbers ordered are in
@@ -264,12 +264,12 @@ module _ (t : Table ℕ) (collected : Collected) (c : IsCollection t collected) 
       let low = (c.objects from p.0 line p.1 at_line).named index named v at_v names in
       let same = c.numbered in omega (arith, low, same)
 
-  held_before : (n : ℕ) → IsHeld collected.globals.items n → n < length collected.objects.items
+  held_before : (n : ℕ) → GlobalHolds collected.globals.items n → n < length collected.objects.items
   held_before n is = global_named is.0 is.1 is.2.0 n is.2.1
 
   -- The image of what was collected
 
-  module _ (commands : List Command) (are_commands : AreCommandsOf t.types commands) (few : length order < 2 ^ 64) where
+  module _ (commands : List Command) (are_commands : AreTypeCommands t.types commands) (few : length order < 2 ^ 64) where
     abbrev image : ImageParts
     image = image_by commands collected.objects.items collected.globals.items order numbers
 
@@ -314,7 +314,7 @@ module _ (t : Table ℕ) (collected : Collected) (c : IsCollection t collected) 
         (renumbered_global number) (λ g. refl) image is_image.well is_image.types refl refl line_count numbering
 
 -- what was written of a collection is the text of an image
-pub images_text : (t : Table ℕ) (collected : Collected) → IsCollection t collected → TypedBy t.types t.objects → (commands : List Command) → AreCommandsOf t.types commands → (bytes : List ℕ)
+pub images_text : (t : Table ℕ) (collected : Collected) → IsCollection t collected → TypedBy t.types t.objects → (commands : List Command) → AreTypeCommands t.types commands → (bytes : List ℕ)
     → IsWritten t.types commands collected.objects.items collected.globals.items bytes → ImagesText t bytes
 images_text t collected c typed commands are_commands bytes written = record {
   image = image_by commands collected.objects.items collected.globals.items written.order written.numbers;
@@ -323,7 +323,7 @@ images_text t collected c typed commands are_commands bytes written = record {
   images = is_image t collected c typed written.kept written.order written.numbers written.ordered written.are commands are_commands written.few;
 }
 
-pub text_in_turn : (t : Table ℕ) (collected : Collected) (c : IsCollection t collected) (typed : TypedBy t.types t.objects) (commands : List Command) (are_commands : AreCommandsOf t.types commands) (bytes : List ℕ)
+pub text_in_turn : (t : Table ℕ) (collected : Collected) (c : IsCollection t collected) (typed : TypedBy t.types t.objects) (commands : List Command) (are_commands : AreTypeCommands t.types commands) (bytes : List ℕ)
     (written : IsWritten t.types commands collected.objects.items collected.globals.items bytes) → IsInTurn (images_text t collected c typed commands are_commands bytes written).image (images_text t collected c typed commands are_commands bytes written).images.well
 unfolding images_text
 text_in_turn t collected c typed commands are_commands bytes written =

@@ -14,7 +14,7 @@ use Rattle.gc_image_collect.specs.Collection.{IsCollection, IsLineOf}
 use Rattle.gc_image_collect.specs.declared.collect.Collected.{Collected}
 use Rattle.gc_image_write.specs.Order.{IsOrder}
 use Rattle.gc_image_write.proofs.LineBelow.{IsLineBelow}
-use Rattle.gc_save_image.specs.Renumbering.{AreNumbersOf, line_at, number_in, renumbered_line, reordered}
+use Rattle.gc_save_image.specs.Renumbering.{AreNumbersOf, line_at, new_number_in, renumbered_line, reordered}
 use Rattle.gc_save_image.proofs.Elements.{distinct_when, map_at, mapped}
 use Rattle.gc_save_image.proofs.Renumbered.{object_again}
 
@@ -32,11 +32,11 @@ module _ (t : Table ℕ) (collected : Collected) (c : IsCollection t collected) 
   abbrev pub position : ℕ → ℕ
   position n = c.position (at_place order n)
 
-  pub number_is : (n old : ℕ) → slice_get order n ≡ Some old → number_in numbers old ≡ n
+  pub number_is : (n old : ℕ) → slice_get order n ≡ Some old → new_number_in numbers old ≡ n
   number_is n old e = ap (λ o. unwrap_or o 0) (are n old e)
 
   -- a new number has the position of the old one
-  pub goes : (old : ℕ) → old < count → position (number_in numbers old) ≡ c.position old
+  pub goes : (old : ℕ) → old < count → position (new_number_in numbers old) ≡ c.position old
   goes old below =
       let n = ordered.all old below in
       ap position (number_is n.0 old n.1) ∙ ap (λ o. c.position (unwrap_or o 0)) n.1
@@ -92,14 +92,14 @@ module _ (t : Table ℕ) (collected : Collected) (c : IsCollection t collected) 
     pub below : old < count
     pub line : ObjectLine
     pub there : slice_get collected.objects.items old ≡ Some line
-    pub is : renumbered_line (number_in numbers) line ≡ new
+    pub is : renumbered_line (new_number_in numbers) line ≡ new
     pub of : PositionOf old
     pub says : IsLineOf t c.position (length c.positions) of.p line
     pub named : IsLineBelow count line
 
-  pub line_of : (n : ℕ) (new : ObjectLine) → slice_get (reordered (number_in numbers) collected.objects.items order) n ≡ Some new → LineAt n new
+  pub line_of : (n : ℕ) (new : ObjectLine) → slice_get (reordered (new_number_in numbers) collected.objects.items order) n ≡ Some new → LineAt n new
   line_of n new e =
-      let old = mapped (λ o. renumbered_line (number_in numbers) (line_at collected.objects.items o)) order n new e in
+      let old = mapped (λ o. renumbered_line (new_number_in numbers) (line_at collected.objects.items o)) order n new e in
       let below = ordered.only n old.of old.there in
       let line = element_at collected.objects.items old.of below in
       let p = position_of old.of below in
@@ -110,17 +110,17 @@ module _ (t : Table ℕ) (collected : Collected) (c : IsCollection t collected) 
         below = below;
         line = line.0;
         there = line.1;
-        is = ap (λ o. renumbered_line (number_in numbers) (unwrap_or o (object.Host 0))) (sym line.1) ∙ old.is;
+        is = ap (λ o. renumbered_line (new_number_in numbers) (unwrap_or o (object.Host 0))) (sym line.1) ∙ old.is;
         of = p;
         says = says;
         named = λ k v at_v number named. (let small = says.named k number v at_v named in let same = c.numbered in omega (arith, small, same));
       }
 
   -- it is the object at its position
-  pub object_is : (n p : ℕ) (new : ObjectLine) → slice_get positions n ≡ Some p → slice_get (reordered (number_in numbers) collected.objects.items order) n ≡ Some new
+  pub object_is : (n p : ℕ) (new : ObjectLine) → slice_get positions n ≡ Some p → slice_get (reordered (new_number_in numbers) collected.objects.items order) n ≡ Some new
       → slice_get t.objects p ≡ Some (placed_object position (as_object new))
   object_is n p new at_p at_new =
       let line = line_of n new at_new in
       let place : line.of.p ≡ p = sym line.of.is ∙ sym (ap (λ o. c.position (unwrap_or o 0)) line.at_old) ∙ position_is n p at_p in
-      let again = object_again (number_in numbers) c.position position count goes line.line line.named in
+      let again = object_again (new_number_in numbers) c.position position count goes line.line line.named in
       ap (slice_get t.objects) (sym place) ∙ line.says.is ∙ ap Some (sym again) ∙ ap (λ (l : ObjectLine). Some (placed_object position (as_object l))) line.is

@@ -16,7 +16,7 @@ use Rattle.gc_image.specs.declared.image.ImageValue.TheVariants as value
 use Rattle.gc_image.specs.declared.image.ObjectLine.{ObjectLine}
 use Rattle.gc_image.specs.declared.image.ObjectLine.TheVariants as object
 use Rattle.gc_image.specs.Images.{AreGlobals, IsGlobal, SaysSlot, placed_object, placed_reference, placed_value}
-use Rattle.gc_image.specs.Well.{IsHeld, Names, as_object, as_reference, as_value, line_values, number_named}
+use Rattle.gc_image.specs.Well.{GlobalHolds, NamesByNumber, as_object, as_reference, as_value, line_values, number_named}
 use Rattle.gc_image.proofs.AlikeLemmas.{element_at, once}
 use Rattle.gc_image_collect.proofs.Closing.{among_values, find_line}
 use Rattle.gc_image_write.specs.Order.{AreClosed}
@@ -96,8 +96,8 @@ module _ (t : Table ℕ) (lines : List ObjectLine) (globals : List GlobalLine) (
       once positions m n p all.distinct (q.1 ∙ ap Some same) at_n
 
   module _ (objects : (n p : ℕ) (line : ObjectLine) → slice_get positions n ≡ Some p → slice_get lines n ≡ Some line → slice_get t.objects p ≡ Some (placed_object position (as_object line)))
-      (said : AreGlobals position globals t.globals) (closed : AreClosed lines) (held : (number : ℕ) → IsHeld globals number → number < length lines) where
-    by_global : (n p : ℕ) → slice_get positions n ≡ Some p → Contains (slot_references t.globals) (at p) → Reachable (IsHeld globals) (Names lines) n
+      (said : AreGlobals position globals t.globals) (closed : AreClosed lines) (held : (number : ℕ) → GlobalHolds globals number → number < length lines) where
+    by_global : (n p : ℕ) → slice_get positions n ≡ Some p → Contains (slot_references t.globals) (at p) → Reachable (GlobalHolds globals) (NamesByNumber lines) n
     by_global n p at_n c =
         let slot = map_among (λ (s : Slot). s.reference) t.globals (at p) c in
         let k = contains_get t.globals slot.of slot.among in
@@ -106,15 +106,15 @@ module _ (t : Table ℕ) (lines : List ObjectLine) (globals : List GlobalLine) (
               let says = said.said found.index found.line found.there in
               let same : says.0 ≡ slot.of = same_Some says.0 slot.of (sym says.1.0 ∙ ap (slice_get t.globals) found.is ∙ k.1) in
               let names = slot_names position found.line.value slot.of p (subst (SaysSlot position found.line.value) same says.1.1) slot.is in
-              let is_held : IsHeld globals names.number = (found.index, found.line, (found.there, names.named)) in
-              subst (Reachable (IsHeld globals) (Names lines)) (one_number n names.number p at_n (held names.number is_held) names.is) (by_start is_held)
+              let is_held : GlobalHolds globals names.number = (found.index, found.line, (found.there, names.named)) in
+              subst (Reachable (GlobalHolds globals) (NamesByNumber lines)) (one_number n names.number p at_n (held names.number is_held) names.is) (by_start is_held)
           | inr none ↦ absurd (no_object p (sym (ap (λ (s : Slot). s.reference) (said.unsaid k.0 slot.of k.1 none)) ∙ slot.is))
         ]
       where
         no_object : (p : ℕ) → null ≡ at p → ⊥
         no_object p e = cc
 
-    by_object : (m n q p : ℕ) → slice_get positions m ≡ Some q → slice_get positions n ≡ Some p → NamesPosition t.objects q p → Names lines m n
+    by_object : (m n q p : ℕ) → slice_get positions m ≡ Some q → slice_get positions n ≡ Some p → NamesPosition t.objects q p → NamesByNumber lines m n
     by_object m n q p at_m at_n names =
         let line = element_at lines m (let within = slice_get_within positions m q at_m in let same = numbered in omega (arith, within, same)) in
         let same : names.object ≡ placed_object position (as_object line.0) = same_Some names.object (placed_object position (as_object line.0)) (sym names.there ∙ objects m q line.0 at_m line.1) in
@@ -124,7 +124,7 @@ module _ (t : Table ℕ) (lines : List ObjectLine) (globals : List GlobalLine) (
         let number = one_number n named.number p at_n (closed m stands.index named.number line.0 says.said line.1 says.there named.named) named.is in
         (line.0, stands.index, says.said, (line.1, (says.there, subst (λ k. number_named says.said ≡ Some k) number named.named)))
 
-    pub reached_from : (n p : ℕ) → slice_get positions n ≡ Some p → IsGlobal t p → Reachable (IsHeld globals) (Names lines) n
+    pub reached_from : (n p : ℕ) → slice_get positions n ≡ Some p → IsGlobal t p → Reachable (GlobalHolds globals) (NamesByNumber lines) n
     reached_from n p at_n (by_start c) = by_global n p at_n c
     reached_from n p at_n (by_step {y = q} reached names) =
         let m = contains_get positions q ((all.all q).1 reached) in

@@ -17,9 +17,9 @@ use Rattle.gc_image.specs.declared.image.ImageValue.TheVariants as value
 use Rattle.gc_image.specs.declared.image.ObjectLine.{ObjectLine}
 use Rattle.gc_image.specs.declared.image.ObjectLine.TheVariants as object
 use Rattle.gc_image.specs.Images.{placed_object, placed_reference, placed_value}
-use Rattle.gc_image.specs.Text.{FitsGlobal, FitsObject, FitsValue}
+use Rattle.gc_image.specs.Text.{FitsGlobal, FitsObject, FitsImageValue}
 use Rattle.gc_image.specs.Well.{HasShape, as_object, as_reference, as_value, line_values, number_named}
-use Rattle.gc_image_write.specs.Order.{AreBelow, IsBelow}
+use Rattle.gc_image_write.specs.Order.{AreBelow, NamesBelow}
 use Rattle.gc_image_write.proofs.LineBelow.{IsLineBelow}
 use Rattle.gc_save_image.specs.Renumbering.{line_at, renumbered_global, renumbered_line, renumbered_reference, renumbered_value, reordered}
 
@@ -31,7 +31,7 @@ module _ (number position position' : ℕ → ℕ) (count : ℕ) (goes : (old : 
   reference_again (image_reference.Small n) below = refl
   reference_again (image_reference.Object old) below = ap at (goes old (below old refl))
 
-  pub value_again : (v : ImageValue) → IsBelow count v → placed_value position' (as_value (renumbered_value number v)) ≡ placed_value position (as_value v)
+  pub value_again : (v : ImageValue) → NamesBelow count v → placed_value position' (as_value (renumbered_value number v)) ≡ placed_value position (as_value v)
   value_again (value.I32 n) below = refl
   value_again (value.I64 n) below = refl
   value_again (value.F32 n) below = refl
@@ -100,7 +100,7 @@ module _ (number : ℕ → ℕ) where
 
   -- lines fit the text where the new numbers do
   module _ (count : ℕ) (small : (old : ℕ) → old < count → number old < 2 ^ 64) where
-    value_fits : (v : ImageValue) → IsBelow count v → FitsValue v → FitsValue (renumbered_value number v)
+    value_fits : (v : ImageValue) → NamesBelow count v → FitsImageValue v → FitsImageValue (renumbered_value number v)
     value_fits (value.I32 n) below fit = fit
     value_fits (value.I64 n) below fit = fit
     value_fits (value.F32 n) below fit = fit
@@ -110,7 +110,7 @@ module _ (number : ℕ → ℕ) where
     value_fits (value.Ref class (image_reference.Small n)) below fit = fit
     value_fits (value.Ref class (image_reference.Object old)) below fit = small old (below old refl)
 
-    values_fit : (vs : List ImageValue) → AreBelow count vs → AllByRecursion FitsValue vs → AllByRecursion FitsValue (map (renumbered_value number) vs)
+    values_fit : (vs : List ImageValue) → AreBelow count vs → AllByRecursion FitsImageValue vs → AllByRecursion FitsImageValue (map (renumbered_value number) vs)
     values_fit [] below fit = tt
     values_fit (v ∷ vs) below fit = (value_fits v (below 0 v refl) fit.0, values_fit vs (λ k w there. below (suc k) w there) fit.1)
 
@@ -121,7 +121,7 @@ module _ (number : ℕ → ℕ) where
     line_fits (object.Host n) below fit = fit
     line_fits (object.Exn ty tag values) below fit = (fit.0, fit.1, fit.2, values_fit values below fit.3)
 
-    pub global_fits : (lines : List GlobalLine) → ((i : ℕ) (line : GlobalLine) → slice_get lines i ≡ Some line → IsBelow count line.value) → AllByRecursion FitsGlobal lines
+    pub global_fits : (lines : List GlobalLine) → ((i : ℕ) (line : GlobalLine) → slice_get lines i ≡ Some line → NamesBelow count line.value) → AllByRecursion FitsGlobal lines
         → AllByRecursion FitsGlobal (map (renumbered_global number) lines)
     global_fits [] below fit = tt
     global_fits (line ∷ lines) below fit = ((fit.0.0, value_fits line.value (below 0 line refl) fit.0.1), global_fits lines (λ i x there. below (suc i) x there) fit.1)

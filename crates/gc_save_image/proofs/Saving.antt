@@ -16,14 +16,14 @@ use Rattle.gc_paths.specs.Answers.{LacksRoots, held_count, present_count}
 use Rattle.gc_image.specs.declared.image.GlobalLine.{GlobalLine}
 use Rattle.gc_image.specs.declared.image.ObjectLine.{ObjectLine}
 use Rattle.gc_image.specs.Images.{IsGlobal}
-use Rattle.gc_image.specs.Well.{IsHeld}
+use Rattle.gc_image.specs.Well.{GlobalHolds}
 use Rattle.gc_image.proofs.AlikeLemmas.{element_at}
-use Rattle.gc_image_collect.specs.Answers.{Collects, IsFull, OnlyPushed}
+use Rattle.gc_image_collect.specs.Answers.{CollectsImage, LacksImageRoots, DropsImageRoots}
 use Rattle.gc_image_collect.specs.Collection.{IsCollection}
 use Rattle.gc_image_collect.specs.declared.collect.Collected.{Collected}
 use Rattle.gc_image_write.specs.Order.{AreClosed, AreTangled, early_named}
 use Rattle.gc_image_write.specs.Plain.{ArePlain}
-use Rattle.gc_image_write.specs.TypeWords.{AreCommandsOf}
+use Rattle.gc_image_write.specs.TypeWords.{AreTypeCommands}
 use Rattle.gc_save_image.specs.Renumbering.{IsWritten}
 use Rattle.gc_save_image.specs.Saves.{IsTangled, RefusesSave, Saved, Unwritten}
 use Rattle.gc_save_image.specs.declared.fault.SaveFault.{SaveFault}
@@ -33,13 +33,13 @@ use Rattle.gc_save_image.proofs.Plainness.{plain_values}
 use Rattle.gc_save_image.proofs.Tangles.{tangled, untangled}
 
 -- no roots were pushed
-pub none_pushed : (layouts : Layouts) (t : Table ℕ) (a : Account) (s : StoreView ℕ) → HoldsAccount layouts s t a → OnlyPushed layouts t a s
+pub none_pushed : (layouts : Layouts) (t : Table ℕ) (a : Account) (s : StoreView ℕ) → HoldsAccount layouts s t a → DropsImageRoots layouts t a s
 none_pushed layouts t a s held = record {
   more = [];
   holds = subst (λ (ps : List Push). HoldsAccount layouts s (record t { pushes = ps }) a) (sym (append-nil t.pushes)) held;
 }
 
-module _ (t : Table ℕ) (typed : TypedBy t.types t.objects) (plain : ArePlain t.types) (collected : Collected) (collects : Collects t collected) where
+module _ (t : Table ℕ) (typed : TypedBy t.types t.objects) (plain : ArePlain t.types) (collected : Collected) (collects : CollectsImage t collected) where
   abbrev collection : IsCollection t collected
   collection = collects.collection (plain_values t typed plain)
 
@@ -51,13 +51,13 @@ module _ (t : Table ℕ) (typed : TypedBy t.types t.objects) (plain : ArePlain t
       let small = (collection.objects from p.0 line p.1 at_line).named index named v at_v names in
       let same = collection.numbered in omega (arith, small, same)
 
-  pub held : (number : ℕ) → IsHeld collected.globals.items number → number < length collected.objects.items
+  pub held : (number : ℕ) → GlobalHolds collected.globals.items number → number < length collected.objects.items
   held number is =
       let small = holds_below (length collection.positions) is.1.value (collection.well is.0 is.1 is.2.0).1 number is.2.1 in
       let same = collection.numbered in omega (arith, small, same)
 
   -- there is room, whatever numbers of roots are told
-  pub has_room : ¬ IsFull t
+  pub has_room : ¬ LacksImageRoots t
   has_room full =
       let same : full.0 ≡ collects.count =
       full.1.0.count_is
@@ -65,12 +65,12 @@ module _ (t : Table ℕ) (typed : TypedBy t.types t.objects) (plain : ArePlain t
       ∙ sym collects.needs.count_is in
       collects.room (subst (LacksRoots t) same full.1.1)
 
-  pub saved : (commands : List Command) → AreCommandsOf t.types commands → (bytes : List ℕ) → IsWritten t.types commands collected.objects.items collected.globals.items bytes → Saved t bytes
+  pub saved : (commands : List Command) → AreTypeCommands t.types commands → (bytes : List ℕ) → IsWritten t.types commands collected.objects.items collected.globals.items bytes → Saved t bytes
   saved commands are bytes written =
       let text = images_text t collected collection typed commands are bytes written in
       record { images = text; in_turn = text_in_turn t collected collection typed commands are bytes written; plain = plain; room = has_room; apart = λ circle. untangled t text.image text.images circle }
 
-  pub refused : AreTangled (early_named t.types collected.objects.items) → ArePlain t.types × (¬ IsFull t) × IsTangled t
+  pub refused : AreTangled (early_named t.types collected.objects.items) → ArePlain t.types × (¬ LacksImageRoots t) × IsTangled t
   refused are = (plain, has_room, tangled t collected collection are)
 
 -- why nothing was written is never that types aren't plain
@@ -91,7 +91,7 @@ module _ {B E : Type 0} (r : Result B SaveFault) (w : Result (Option B) E) (told
 
   -- what was written is what is answered
   answers : (t : Table ℕ) (Written Done : B → Type 0) (Tangle : Type 0) → IfOk w (λ found. IfSome found Written) → IfOk w (λ found. IfNone found Tangle)
-      → ((bytes : B) → Written bytes → Done bytes) → (Tangle → ArePlain t.types × (¬ IsFull t) × IsTangled t) → MatchResult r Done (RefusesSave t)
+      → ((bytes : B) → Written bytes → Done bytes) → (Tangle → ArePlain t.types × (¬ LacksImageRoots t) × IsTangled t) → MatchResult r Done (RefusesSave t)
   answers t Written Done Tangle some none done refuses = by r told
     where
       why_not : (why : SaveFault) (x : Result (Option B) E) → w ≡ x → Unwritten x why → RefusesSave t why
@@ -103,7 +103,7 @@ module _ {B E : Type 0} (r : Result B SaveFault) (w : Result (Option B) E) (told
       by (Ok bytes) told = done bytes (subst (λ (x : Result (Option B) E). IfOk x (λ found. IfSome found Written)) told some)
       by (Err why) told = why_not why w refl told
 
-  pub saves : (t : Table ℕ) → TypedBy t.types t.objects → ArePlain t.types → (collected : Collected) → Collects t collected → (commands : List Command) → AreCommandsOf t.types commands
+  pub saves : (t : Table ℕ) → TypedBy t.types t.objects → ArePlain t.types → (collected : Collected) → CollectsImage t collected → (commands : List Command) → AreTypeCommands t.types commands
       → (types : List Declaration) → types ≡ t.types → (objects : List ObjectLine) → objects ≡ collected.objects.items → (globals : List GlobalLine) → globals ≡ collected.globals.items
       → (items : B → List ℕ) → IfOk w (λ found. IfSome found (λ bytes. IsWritten types commands objects globals (items bytes))) → IfOk w (λ found. IfNone found (AreTangled (early_named types objects)))
       → MatchResult r (λ bytes. Saved t (items bytes)) (RefusesSave t)

@@ -41,8 +41,8 @@ abbrev pub renumbered_global : (ℕ → ℕ) → GlobalLine → GlobalLine
 renumbered_global number global = record { index = global.index; value = renumbered_value number global.value }
 
 -- the new number of an old one by a list of them; 0 where it has none
-abbrev pub number_in : List ℕ → ℕ → ℕ
-number_in numbers old = unwrap_or (slice_get numbers old) 0
+abbrev pub new_number_in : List ℕ → ℕ → ℕ
+new_number_in numbers old = unwrap_or (slice_get numbers old) 0
 
 -- the line of an old number; that of a host object where there is none
 abbrev pub line_at : List ObjectLine → ℕ → ObjectLine
@@ -60,8 +60,8 @@ reordered number objects order = map (λ old. renumbered_line number (line_at ob
 abbrev pub image_by : List Command → List ObjectLine → List GlobalLine → List ℕ → List ℕ → ImageParts
 image_by commands objects globals order numbers = record {
   types = commands;
-  objects = reordered (number_in numbers) objects order;
-  globals = map (renumbered_global (number_in numbers)) globals;
+  objects = reordered (new_number_in numbers) objects order;
+  globals = map (renumbered_global (new_number_in numbers)) globals;
 }
 
 -- The text was written of the objects in the order that the rule gives, in which they can be made, each number being the place in it.

@@ -10,7 +10,7 @@ use Rattle.gc_image.specs.Images.{ImagesText, IsGlobal}
 use Rattle.gc_image.specs.Well.{is_early}
 use Rattle.gc_image_write.specs.InTurn.{IsInTurn}
 use Rattle.gc_image_write.specs.Plain.{ArePlain}
-use Rattle.gc_image_collect.specs.Answers.{IsFull}
+use Rattle.gc_image_collect.specs.Answers.{LacksImageRoots}
 use Rattle.gc_save_image.specs.declared.fault.SaveFault.{SaveFault}
 use Rattle.gc_save_image.specs.declared.fault.SaveFault.TheVariants as fault
 
@@ -38,14 +38,14 @@ pub record Saved (t : Table ℕ) (bytes : List ℕ) : Type 0 where
   pub images : ImagesText t bytes
   pub in_turn : IsInTurn images.image images.images.well
   pub plain : ArePlain t.types
-  pub room : ¬ IsFull t
+  pub room : ¬ LacksImageRoots t
   pub apart : ¬ IsTangled t
 
 -- why nothing is saved: the first test that refuses
 abbrev pub RefusesSave : Table ℕ → SaveFault → Type 0
 RefusesSave t fault.NotPlain = ¬ ArePlain t.types
-RefusesSave t fault.RootsFull = ArePlain t.types × IsFull t
-RefusesSave t fault.Tangled = ArePlain t.types × (¬ IsFull t) × IsTangled t
+RefusesSave t fault.RootsFull = ArePlain t.types × LacksImageRoots t
+RefusesSave t fault.Tangled = ArePlain t.types × (¬ LacksImageRoots t) × IsTangled t
 RefusesSave t fault.Memory = Unit {0}
 
 -- why nothing was written: there is no order, or no memory

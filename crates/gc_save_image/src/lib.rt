@@ -1,4 +1,7 @@
 //! Saves what the globals of a store reach as an image.
+//!
+//! `save_image` promises the text of an image of the table, in the order that the graph alone decides, or the refusal that
+//! has its cause. It asks `gc_image_collect` for the lines and `gc_image_write` for their order and text.
 #![tactic(auto)]
 
 mod fault;

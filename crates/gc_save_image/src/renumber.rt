@@ -1,7 +1,7 @@
 //! Objects and globals under new numbers.
 
 ghost use Rattle.std.specs.Prelude.{◌≡◌, ◌<◌, ℕ, Some, IfOk, length, map, slice_get};
-ghost use Rattle.gc_save_image.specs.Renumbering.{AreNumbersOf, number_in, renumbered_global, renumbered_line, renumbered_value, reordered};
+ghost use Rattle.gc_save_image.specs.Renumbering.{AreNumbersOf, new_number_in, renumbered_global, renumbered_line, renumbered_value, reordered};
 
 use gc_commands::ByteText;
 use gc_image::{GlobalLine, ImageReference, ImageValue, ImageValues, ObjectLine};
@@ -26,14 +26,14 @@ pub(crate) fn numbers_of(
 
 /// The new number of an old one; 0 where it has none.
 fn number_in(numbers: &[usize], old: usize) -> usize
-    ensures { result ≡ number_in numbers.now old }
+    ensures { result ≡ new_number_in numbers.now old }
 {
     numbers.get(old).copied().unwrap_or(0)
 }
 
 /// A value under new numbers.
 fn renumbered_value(value: &ImageValue, numbers: &[usize]) -> ImageValue
-    ensures { result ≡ renumbered_value (number_in numbers.now) value.now }
+    ensures { result ≡ renumbered_value (new_number_in numbers.now) value.now }
 {
     match *value {
         ImageValue::I32(number) => ImageValue::I32(number),
@@ -60,7 +60,7 @@ fn renumbered_values(
     values: &[ImageValue],
     numbers: &[usize],
 ) -> Result<ImageValues, AllocError>
-    ensures { IfOk result (λ new. new ≡ map (renumbered_value (number_in numbers.now)) values.now) }
+    ensures { IfOk result (λ new. new ≡ map (renumbered_value (new_number_in numbers.now)) values.now) }
 {
     let mut renumbered = Vec::with_capacity(alloc, values.len())?;
     for value in values {
@@ -75,7 +75,7 @@ fn renumbered_line(
     line: &ObjectLine,
     numbers: &[usize],
 ) -> Result<ObjectLine, AllocError>
-    ensures { IfOk result (λ new. new ≡ renumbered_line (number_in numbers.now) line.now) }
+    ensures { IfOk result (λ new. new ≡ renumbered_line (new_number_in numbers.now) line.now) }
 {
     match line {
         ObjectLine::Struct { ty, values } => Ok(ObjectLine::Struct {
@@ -107,7 +107,7 @@ pub(crate) fn renumbered_objects(
     numbers: &[usize],
 ) -> Result<Vec<ObjectLine>, AllocError>
     requires { (n old : ℕ) → slice_get order.now n ≡ Some old → old < length objects.now }
-    ensures { IfOk result (λ lines. lines.items ≡ reordered (number_in numbers.now) objects.now order.now) }
+    ensures { IfOk result (λ lines. lines.items ≡ reordered (new_number_in numbers.now) objects.now order.now) }
 {
     let mut lines = Vec::with_capacity(alloc, order.len())?;
     for old in order {
@@ -122,7 +122,7 @@ pub(crate) fn renumbered_globals(
     globals: &[GlobalLine],
     numbers: &[usize],
 ) -> Result<Vec<GlobalLine>, AllocError>
-    ensures { IfOk result (λ lines. lines.items ≡ map (renumbered_global (number_in numbers.now)) globals.now) }
+    ensures { IfOk result (λ lines. lines.items ≡ map (renumbered_global (new_number_in numbers.now)) globals.now) }
 {
     let mut lines = Vec::with_capacity(alloc, globals.len())?;
     for global in globals {

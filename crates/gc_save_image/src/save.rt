@@ -5,10 +5,10 @@ ghost use Rattle.std.specs.List.{AllByRecursion};
 ghost use Rattle.gc_model.specs.Table.{Table};
 ghost use Rattle.gc_policy.specs.Accounts.{Account, HoldsAccount};
 ghost use Rattle.gc_store.specs.Stores.{IsSameStore};
-ghost use Rattle.gc_image.specs.Text.{FitsType};
-ghost use Rattle.gc_image.specs.Well.{IsHeld};
+ghost use Rattle.gc_image.specs.Text.{FitsImageType};
+ghost use Rattle.gc_image.specs.Well.{GlobalHolds};
 ghost use Rattle.gc_image_write.specs.Order.{AreClosed, AreTangled, early_named};
-ghost use Rattle.gc_image_collect.specs.Answers.{OnlyPushed};
+ghost use Rattle.gc_image_collect.specs.Answers.{DropsImageRoots};
 ghost use Rattle.gc_save_image.specs.Renumbering.{IsWritten};
 ghost use Rattle.gc_save_image.specs.Saves.{RefusesSave, Saved, Unwritten};
 
@@ -34,7 +34,7 @@ use std::alloc::{AllocError, Global};
 pub fn save_image<H: GcHeap>(alloc: Global, store: &mut Store<H, u64>) -> Result<Vec<u8>, SaveFault>
     ensures saves { (t : Table ℕ) (a : Account) → HoldsAccount H.KIND store.old t a
         → MatchResult result (λ bytes. Saved t bytes.items) (RefusesSave t) }
-    ensures leaves { (t : Table ℕ) (a : Account) → HoldsAccount H.KIND store.old t a → OnlyPushed H.KIND t a store.new }
+    ensures leaves { (t : Table ℕ) (a : Account) → HoldsAccount H.KIND store.old t a → DropsImageRoots H.KIND t a store.new }
     ensures untouched { result ≡ Err SaveFault.NotPlain → store.new ≡ store.old }
     ensures same { IsSameStore store.old store.new }
 {
@@ -77,9 +77,9 @@ fn write_ordered(
     objects: &[ObjectLine],
     globals: &[GlobalLine],
 ) -> Result<Option<Vec<u8>>, AllocError>
-    requires commands { AllByRecursion FitsType commands.items }
+    requires commands { AllByRecursion FitsImageType commands.items }
     requires closed { AreClosed objects.now }
-    requires held { (number : ℕ) → IsHeld globals.now number → number < length objects.now }
+    requires held { (number : ℕ) → GlobalHolds globals.now number → number < length objects.now }
     ensures some { IfOk result (λ found. IfSome found (λ bytes. IsWritten types.now.declarations commands.items objects.now globals.now bytes.items)) }
     ensures none { IfOk result (λ found. IfNone found (AreTangled (early_named types.now.declarations objects.now))) }
 {

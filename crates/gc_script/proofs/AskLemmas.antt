@@ -10,7 +10,7 @@ use Rattle.gc_owner.specs.Limiters.{Refuses}
 use Rattle.gc_owner.specs.Growing.{AsksFirst, AsksPages}
 use Rattle.gc_owner.specs.Growing as growth
 use Rattle.gc_owner.specs.Retry.{Retry, at_once, after_collection, after_both, after_growth, after_refusal}
-use Rattle.gc_policy.specs.Policy.{PolicyState, CollectsTable, GrowsTable, MakesTable, Prepares, Expands, table_after, table_made, table_rules}
+use Rattle.gc_policy.specs.Policy.{PolicyState, CollectsTable, GrowsTable, MakesTable, Prepares, ExpandsTable, table_after, table_made, table_rules}
 use Rattle.gc_policy.specs.Policy as policy
 
 -- A limiter was asked for nothing that it refused, which is so where all went well, or more pages would be more than
@@ -110,7 +110,7 @@ prepares_asks {D} layouts counter size p {ok} {q} (policy.tried {m = m} {n = n} 
     (retry_asks layouts size n (ap (λ (t : Table D). t.made) keeps.table ∙ makes_heap (need_of layouts size) (policy.count_try p) m makes) retry)
 
 -- what a growth that was asked for asked
-pub expands_asks : {D : Type 0} (layouts : Layouts) (bytes : ℕ) (p : PolicyState D) {ok : Bool} {q : PolicyState D} → Expands layouts bytes p ok q → AsksBy bytes ok p.limits q.limits q.table
+pub expands_asks : {D : Type 0} (layouts : Layouts) (bytes : ℕ) (p : PolicyState D) {ok : Bool} {q : PolicyState D} → ExpandsTable layouts bytes p ok q → AsksBy bytes ok p.limits q.limits q.table
 expands_asks layouts bytes p (policy.nothing is) = unrefused refl refl
 expands_asks layouts bytes p {ok} {q} (policy.no_heap any makes) = no_heap_asks bytes p q makes
 expands_asks layouts bytes p {ok} {q} (policy.grows {m = m} any makes grows) =

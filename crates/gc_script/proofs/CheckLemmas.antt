@@ -17,11 +17,11 @@ use Rattle.gc_store.specs.Values.{RawStands, AllStand}
 use Rattle.gc_commands.specs.declared.command.Operand.{Operand}
 use Rattle.gc_commands.specs.declared.reply.Refusal.{Refusal}
 use Rattle.gc_script.specs.declared.objects.ValueTypes.{ValueTypes}
-use Rattle.gc_script.specs.State.{State, Stands}
+use Rattle.gc_script.specs.State.{State, RegisterStands}
 use Rattle.gc_script.specs.Given.{held_operand, given, given_value, given_values}
 use Rattle.gc_script.specs.Steps.{first_failing, value_tests}
 use Rattle.gc_script.specs.Named.{type_at}
-use Rattle.gc_script.specs.Values.{AllHeld, is_opaque, AllPlain, CanStoreAs, AllStorable, ChecksValue, typed_tests, ChecksValues}
+use Rattle.gc_script.specs.Values.{AllHeld, is_opaque, AllPlain, CanStoreRaw, AllRawStorable, ChecksOperand, typed_tests, ChecksOperands}
 use Rattle.gc_script.proofs.TestLemmas.{passes_all, stops_all}
 
 -- what is left from an element on
@@ -38,13 +38,13 @@ cases_le_suc j i lt =
     ]
 
 -- the operand that a value is of
-hold_operand : (store : StoreView ℕ) (s : State) (vs : List Operand) (raws : List RawValue) (i : ℕ) (r : RawValue) → AllHeld store s vs raws → slice_get raws i ≡ Some r → (v : Operand) × ((slice_get vs i ≡ Some v) × Stands store s.table (Some r) (held_operand s v))
+hold_operand : (store : StoreView ℕ) (s : State) (vs : List Operand) (raws : List RawValue) (i : ℕ) (r : RawValue) → AllHeld store s vs raws → slice_get raws i ≡ Some r → (v : Operand) × ((slice_get vs i ≡ Some v) × RegisterStands store s.table (Some r) (held_operand s v))
 hold_operand store s [] [] i r all e = absurd (none-some r e)
 hold_operand store s [] (x ∷ raws) i r all e = absurd all
 hold_operand store s (v ∷ vs) [] i r all e = absurd all
 hold_operand store s (v ∷ vs) (x ∷ raws) zero r all e =
     let is : x ≡ r = grind (arith, e) in
-    (v, (refl, subst (λ (y : RawValue). Stands store s.table (Some y) (held_operand s v)) is all.0))
+    (v, (refl, subst (λ (y : RawValue). RegisterStands store s.table (Some y) (held_operand s v)) is all.0))
 hold_operand store s (v ∷ vs) (x ∷ raws) (suc i) r all e = hold_operand store s vs raws i r all.1 e
 
 -- a failure that is told
@@ -63,7 +63,7 @@ module _ (layouts : Layouts) (store : StoreView ℕ) (types : ValueTypes) (raws 
 
   -- The first values are checked: they may be stored, and whatever refusal there is comes from those left.
   pub record CheckedSoFar (i : ℕ) : Type 0 where
-    pub stores : (j : ℕ) (r : RawValue) → j < i → slice_get raws j ≡ Some r → CanStoreAs layouts store (type_at store.types types j) r
+    pub stores : (j : ℕ) (r : RawValue) → j < i → slice_get raws j ≡ Some r → CanStoreRaw layouts store (type_at store.types types j) r
     pub plain : (j : ℕ) (r : RawValue) → j < i → slice_get raws j ≡ Some r → is_opaque r ≡ false
     pub passed : (s : State) (vs : List Operand) → HoldsTable layouts store s.table → AllHeld store s vs raws → first_failing (tests_at s 0 vs) ≡ first_failing (tests_at s i (drop i vs))
     pub stand : (s : State) (vs : List Operand) → HoldsTable layouts store s.table → AllHeld store s vs raws → (j : ℕ) (r : RawValue) (v : Operand) → j < i → slice_get raws j ≡ Some r → slice_get vs j ≡ Some v → RawStands store s.table r (given_value (given s v))
@@ -79,13 +79,13 @@ module _ (layouts : Layouts) (store : StoreView ℕ) (types : ValueTypes) (raws 
 
   module _ (i : ℕ) (so_far : CheckedSoFar i) (r : RawValue) (r_is : slice_get raws i ≡ Some r) (field : Option FieldType) (field_is : field ≡ type_at store.types types i) where
     -- what a check says of the types of a state
-    checks_here : (result : Result (Unit {0}) Refusal) → ((s : State) (v : Operand) → HoldsTable layouts store s.table → Stands store s.table (Some r) (held_operand s v) → ChecksValue store s field v r result)
-        → (s : State) (v : Operand) → HoldsTable layouts store s.table → Stands store s.table (Some r) (held_operand s v) → ChecksValue store s (type_at s.table.types types i) v r result
+    checks_here : (result : Result (Unit {0}) Refusal) → ((s : State) (v : Operand) → HoldsTable layouts store s.table → RegisterStands store s.table (Some r) (held_operand s v) → ChecksOperand store s field v r result)
+        → (s : State) (v : Operand) → HoldsTable layouts store s.table → RegisterStands store s.table (Some r) (held_operand s v) → ChecksOperand store s (type_at s.table.types types i) v r result
     checks_here result checks s v holds stands =
-        subst (λ (f : Option FieldType). ChecksValue store s f v r result) (field_is ∙ ap (λ (ts : List Declaration). type_at ts types i) holds.1.types) (checks s v holds stands)
+        subst (λ (f : Option FieldType). ChecksOperand store s f v r result) (field_is ∙ ap (λ (ts : List Declaration). type_at ts types i) holds.1.types) (checks s v holds stands)
 
     -- one more value passes
-    pub checked_more : (done : Unit {0}) → CanStoreAs layouts store field r → is_opaque r ≡ false → ((s : State) (v : Operand) → HoldsTable layouts store s.table → Stands store s.table (Some r) (held_operand s v) → ChecksValue store s field v r (Ok done)) → CheckedSoFar (suc i)
+    pub checked_more : (done : Unit {0}) → CanStoreRaw layouts store field r → is_opaque r ≡ false → ((s : State) (v : Operand) → HoldsTable layouts store s.table → RegisterStands store s.table (Some r) (held_operand s v) → ChecksOperand store s field v r (Ok done)) → CheckedSoFar (suc i)
     checked_more done can is_plain checks = record {
       stores = λ j q lt e.
           elim (cases_le_suc j i lt) [
@@ -93,8 +93,8 @@ module _ (layouts : Layouts) (store : StoreView ℕ) (types : ValueTypes) (raws 
             | inr here ↦
                 let q_is : Some r ≡ Some q = sym r_is ∙ ap (slice_get raws) (sym here) ∙ e in
                 let same : r ≡ q = grind (arith, q_is) in
-                subst (λ (f : Option FieldType). CanStoreAs layouts store f q) (field_is ∙ ap (type_at store.types types) (sym here))
-                (subst (CanStoreAs layouts store field) same can)
+                subst (λ (f : Option FieldType). CanStoreRaw layouts store f q) (field_is ∙ ap (type_at store.types types) (sym here))
+                (subst (CanStoreRaw layouts store field) same can)
           ];
       plain = λ j q lt e.
           elim (cases_le_suc j i lt) [
@@ -124,7 +124,7 @@ module _ (layouts : Layouts) (store : StoreView ℕ) (types : ValueTypes) (raws 
     }
 
     -- a value is refused
-    pub checked_refused : (why : Refusal) → ((s : State) (v : Operand) → HoldsTable layouts store s.table → Stands store s.table (Some r) (held_operand s v) → ChecksValue store s field v r (Err why)) → (s : State) (vs : List Operand) → HoldsTable layouts store s.table → AllHeld store s vs raws → ChecksValues store s types vs raws (Err why)
+    pub checked_refused : (why : Refusal) → ((s : State) (v : Operand) → HoldsTable layouts store s.table → RegisterStands store s.table (Some r) (held_operand s v) → ChecksOperand store s field v r (Err why)) → (s : State) (vs : List Operand) → HoldsTable layouts store s.table → AllHeld store s vs raws → ChecksOperands store s types vs raws (Err why)
     checked_refused why checks s vs holds are =
         let v = hold_operand store s vs raws i r are r_is in
         so_far.passed s vs holds are
@@ -133,7 +133,7 @@ module _ (layouts : Layouts) (store : StoreView ℕ) (types : ValueTypes) (raws 
 
   module _ (i : ℕ) (so_far : CheckedSoFar i) (all : length raws ≤ i) where
     -- all values are checked, so all may be stored
-    pub checked_storable : AllStorable layouts store types raws
+    pub checked_storable : AllRawStorable layouts store types raws
     checked_storable j r e = let within = slice_get_within raws j r e in so_far.stores j r (omega (arith, within, all)) e
 
     -- and none is a function or a continuation
@@ -153,12 +153,12 @@ module _ (layouts : Layouts) (store : StoreView ℕ) (types : ValueTypes) (raws 
     }
       where
         many : (s : State) (vs : List Operand) → AllHeld store s vs raws → length raws ≡ length vs
-        many s vs are = AllZip-long (λ (v : Operand) (r : RawValue). Stands store s.table (Some r) (held_operand s v)) vs raws are
+        many s vs are = AllZip-long (λ (v : Operand) (r : RawValue). RegisterStands store s.table (Some r) (held_operand s v)) vs raws are
 
     -- all values pass their tests, and stand for what is given
-    pub checked_all : (done : Unit {0}) → (s : State) (vs : List Operand) → HoldsTable layouts store s.table → AllHeld store s vs raws → ChecksValues store s types vs raws (Ok done)
+    pub checked_all : (done : Unit {0}) → (s : State) (vs : List Operand) → HoldsTable layouts store s.table → AllHeld store s vs raws → ChecksOperands store s types vs raws (Ok done)
     checked_all done s vs holds are =
-        let many : length raws ≡ length vs = AllZip-long (λ (v : Operand) (r : RawValue). Stands store s.table (Some r) (held_operand s v)) vs raws are in (
+        let many : length raws ≡ length vs = AllZip-long (λ (v : Operand) (r : RawValue). RegisterStands store s.table (Some r) (held_operand s v)) vs raws are in (
           so_far.passed s vs holds are ∙ ap (λ (ws : List Operand). first_failing (tests_at s i ws)) (drop_all i vs (omega (arith, many, all))),
           checked_stand s vs holds are,
         )

@@ -12,7 +12,7 @@ use Rattle.gc_commands.specs.declared.reply.Reply.{Reply}
 use Rattle.gc_commands.specs.declared.reply.Reply.TheVariants as reply
 use Rattle.gc_script.specs.Slots.{RunnerView}
 use Rattle.gc_script.specs.State.{State, HoldsState, with_account}
-use Rattle.gc_script.specs.Shapes.{Told, of_objects, of_increments, collecting}
+use Rattle.gc_script.specs.Shapes.{ToldCount, of_objects, of_increments, collecting}
 use Rattle.gc_script.specs.Steps.{Tells}
 use Rattle.gc_script.specs.Policy.{policy_of}
 use Rattle.gc_script.specs.Run.{RunsOn, SaysRefused}
@@ -20,11 +20,11 @@ use Rattle.gc_script.proofs.StandLemmas.{holds_kept}
 use Rattle.gc_script.proofs.CountLemmas.{says_other, counts_nothing}
 
 -- what a collection tells is no refusal of pages
-pub tells_mild : (layouts : Layouts) (s : State) (told : Told) (answer : Reply) → Tells layouts s told answer → ¬ SaysRefused answer
+pub tells_mild : (layouts : Layouts) (s : State) (told : ToldCount) (answer : Reply) → Tells layouts s told answer → ¬ SaysRefused answer
 tells_mild layouts s of_objects answer tells = says_other answer (reply.Held tells.objects tells.hosts) tells.shows refl
 tells_mild layouts s of_increments answer tells = says_other answer (reply.Increments tells.increments) tells.shows refl
 
-module _ (layouts : Layouts) (counter : Option ℕ) (limits : Limits) (old new : StoreView ℕ) (runner : RunnerView) (s : State) (told : Told) (answer : Reply) (same : IsSameStore old new) (holds : HoldsState layouts old runner s) (tells : Tells layouts s told answer) where
+module _ (layouts : Layouts) (counter : Option ℕ) (limits : Limits) (old new : StoreView ℕ) (runner : RunnerView) (s : State) (told : ToldCount) (answer : Reply) (same : IsSameStore old new) (holds : HoldsState layouts old runner s) (tells : Tells layouts s told answer) where
   -- the account is another one
   gone_to : (a : Account) → HoldsAccount layouts new s.table a → MayCollectTable layouts (policy_of s limits) (policy_of (with_account a s) limits) → RunsOn layouts counter limits limits s (collecting told) [] (Ok answer) new runner
   gone_to a table follows = record {

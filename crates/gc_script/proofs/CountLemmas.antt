@@ -8,7 +8,7 @@ use Rattle.gc_commands.specs.declared.reply.Refusal.{Refusal}
 use Rattle.gc_commands.specs.declared.reply.Refusal.TheVariants as refusal
 use Rattle.gc_script.specs.State.{State}
 use Rattle.gc_script.specs.Steps.{first_failing}
-use Rattle.gc_script.specs.Run.{SaysRefused, Counts, told, overlooked, nothing, pages_asked}
+use Rattle.gc_script.specs.Run.{SaysRefused, LimiterCounts, told, overlooked, nothing, pages_asked}
 use Rattle.gc_script.proofs.AskLemmas.{AsksBy, unrefused, too_many, refused_pages, refused_first}
 
 -- whether a refusal says that the heap was refused pages
@@ -49,7 +49,7 @@ append_mild (t ∷ ts) us one other =
 
 module _ (bytes : ℕ) (limits limits' : Limits) (answer : Reply) (after : State) where
   -- a reply that says nothing of it, of a limiter that is as before
-  pub counts_nothing : ¬ SaysRefused answer → limits' ≡ limits → Counts bytes limits limits' answer after
+  pub counts_nothing : ¬ SaysRefused answer → limits' ≡ limits → LimiterCounts bytes limits limits' answer after
   counts_nothing other same = nothing (λ is_asked. other is_asked.says) same
 
   -- the pages for which a heap that is made was asked
@@ -59,7 +59,7 @@ module _ (bytes : ℕ) (limits limits' : Limits) (answer : Reply) (after : State
       (sym (ap (λ b. cond b (after.table.pages, after.table.pages + asked after.table.pages bytes) (0, after.table.first)) made)) refuses
 
   -- what was refused is told
-  pub counts_refused : SaysRefused answer → AsksBy bytes false limits limits' after.table → Counts bytes limits limits' answer after
+  pub counts_refused : SaysRefused answer → AsksBy bytes false limits limits' after.table → LimiterCounts bytes limits limits' answer after
   counts_refused says (unrefused ok same) = absurd (cc ok)
   counts_refused says (too_many made past same) = nothing (λ is_asked. let within = is_asked.within made in omega (arith, within, past)) same
   counts_refused says (refused_pages made within refuses) = told (record { says = says; within = λ _. within }) (refused_made made refuses)
@@ -69,7 +69,7 @@ module _ (bytes : ℕ) (limits limits' : Limits) (answer : Reply) (after : State
       (sym (ap (λ b. cond b (after.table.pages, after.table.pages + asked after.table.pages bytes) (0, after.table.first)) unmade)) refuses)
 
   -- what was refused on the way of a command that went well is overlooked
-  pub counts_done : answer ≡ reply.Done → AsksBy bytes true limits limits' after.table → Counts bytes limits limits' answer after
+  pub counts_done : answer ≡ reply.Done → AsksBy bytes true limits limits' after.table → LimiterCounts bytes limits limits' answer after
   counts_done done (unrefused ok same) = counts_nothing (says_other answer reply.Done done refl) same
   counts_done done (too_many made past same) = counts_nothing (says_other answer reply.Done done refl) same
   counts_done done (refused_pages made within refuses) = overlooked done (refused_made made refuses)

@@ -8,7 +8,7 @@ use Rattle.std.proofs.lemmas.List.Sums.{fails_before_first, passes_at_first}
 use Rattle.gc_commands.specs.Spelling.{max_line}
 use Rattle.gc_script.specs.Lines.{line_feed, lines}
 use Rattle.gc_script.proofs.LineLemmas.{none_found}
-use Rattle.gc_script.specs.Cutting.{BeginsWhole, KeptLine, no_line, kept_of, longer, has_feed, IsCut, EndsLine, GoesOn, FeedsAll, no_pieces, line_ended, line_goes_on, EndsWhole, last_piece, GivesLines}
+use Rattle.gc_script.specs.Cutting.{BeginsWhole, KeptLine, no_line, kept_of, longer, has_feed, IsCut, EndsLine, LineGoesOn, FeedsAll, no_pieces, line_ended, line_goes_on, EndsWhole, last_piece, GivesLines}
 
 -- the place is that of the first line feed
 record IsFirstFeed (piece : List ℕ) (k : ℕ) : Type 0 where
@@ -57,7 +57,7 @@ ends_at piece k old new found goes_on =
     }
 
 -- no line feed was found
-pub goes_on_all : (piece : List ℕ) (old new : KeptLine) → position (λ b. b == 10) piece ≡ None → new ≡ longer old piece → GoesOn old new piece (length piece)
+pub goes_on_all : (piece : List ℕ) (old new : KeptLine) → position (λ b. b == 10) piece ≡ None → new ≡ longer old piece → LineGoesOn old new piece (length piece)
 goes_on_all piece old new none goes_on =
     let all = none_found piece none in
     record {

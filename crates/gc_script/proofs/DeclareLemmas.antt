@@ -20,13 +20,13 @@ use Rattle.gc_commands.specs.TypeWords.{kinds_with, field_of, fields_of, declare
 use Rattle.gc_script.specs.State.{State, HoldsState, with_table}
 use Rattle.gc_script.specs.Steps.{first_failing, declared, bad}
 use Rattle.gc_script.specs.Shapes.{declaring}
-use Rattle.gc_script.specs.Run.{Goes}
+use Rattle.gc_script.specs.Run.{GoesUnasked}
 use Rattle.gc_script.proofs.StandLemmas.{holds_kept, holds_same}
 use Rattle.gc_script.proofs.TestLemmas.{answers_by}
 
 module _ (layouts : Layouts) (old new : StoreView ℕ) (runner : RunnerView) (s : State) (d : List Declaration → Option Declaration) (left : List (Bool × Refusal)) (pass : first_failing left ≡ None) (same : IsSameStore old new) (holds : HoldsState layouts old runner s) where
   -- a type was declared
-  pub type_declared : (spelled : Declaration) (ty : TypeName) (index : ℕ) → d s.table.types ≡ Some spelled → index ≡ ty.index → Declares layouts spelled s.table s.account (Ok ty) new → Goes layouts s (declaring d) left (reply.Declared index) new runner
+  pub type_declared : (spelled : Declaration) (ty : TypeName) (index : ℕ) → d s.table.types ≡ Some spelled → index ≡ ty.index → Declares layouts spelled s.table s.account (Ok ty) new → GoesUnasked layouts s (declaring d) left (reply.Declared index) new runner
   type_declared spelled ty index is named declares =
       let after : State = with_table (declare spelled s.table) s in
       record {
@@ -38,7 +38,7 @@ module _ (layouts : Layouts) (old new : StoreView ℕ) (runner : RunnerView) (s 
       }
 
   -- the type may not be declared
-  pub type_refused : (spelled : Declaration) → d s.table.types ≡ Some spelled → Declares layouts spelled s.table s.account (Err type_fault.BadType) new → Goes layouts s (declaring d) left (reply.Refused refusal.BadType) new runner
+  pub type_refused : (spelled : Declaration) → d s.table.types ≡ Some spelled → Declares layouts spelled s.table s.account (Err type_fault.BadType) new → GoesUnasked layouts s (declaring d) left (reply.Refused refusal.BadType) new runner
   type_refused spelled is declares = record {
     after = s;
     answers = answers_by layouts None s (declaring d) (first_failing left) None (reply.Refused refusal.BadType) s pass

@@ -29,7 +29,7 @@ use Rattle.gc_script.specs.Steps.{first_failing, any_unset, count_in, all_value_
 use Rattle.gc_script.specs.Requested.{type_of, requested_fields}
 use Rattle.gc_script.specs.Run.{WantsAfter, RunsOn, shape_bytes}
 use Rattle.gc_script.specs.Named.{type_at}
-use Rattle.gc_script.specs.Values.{CanStoreAs, AllStorable, typed_tests}
+use Rattle.gc_script.specs.Values.{CanStoreRaw, AllRawStorable, typed_tests}
 use Rattle.gc_script.proofs.CountLemmas.{tells_pages, says_other, counts_nothing}
 use Rattle.gc_script.proofs.MakeTests.{struct_types, field_tests}
 use Rattle.gc_script.proofs.TestLemmas.{passes, stops, passes_all, stops_all, answers_by, follows_by}
@@ -52,14 +52,14 @@ requested_types types (place.Exn ty tag) fields e = declaration_exception (slice
 requested_types types (place.Array ty n) fields e = absurd (none-some fields e)
 
 -- values that may be stored in them may be placed
-pub fields_request : (layouts : Layouts) (store : StoreView ℕ) (request : Place) (raws : List RawValue) (fields : List FieldType) → requested_fields store.types request ≡ Some fields → length raws ≡ length fields → AllStorable layouts store (types_of.Fields (type_of request)) raws
+pub fields_request : (layouts : Layouts) (store : StoreView ℕ) (request : Place) (raws : List RawValue) (fields : List FieldType) → requested_fields store.types request ≡ Some fields → length raws ≡ length fields → AllRawStorable layouts store (types_of.Fields (type_of request)) raws
     → CanPlaceFields ℕ layouts store (requested_fields store.types request) raws
 fields_request layouts store request raws fields declared many all = record {
   fields = fields;
   declared = declared;
   same_count = many;
   each = λ i field r field_is r_is.
-      subst (λ (f : Option FieldType). CanStoreAs layouts store f r)
+      subst (λ (f : Option FieldType). CanStoreRaw layouts store f r)
       (ap (option_and_then (λ (fs : List FieldType). slice_get fs i)) (requested_types store.types request fields declared) ∙ field_is) (all i r r_is);
 }
 
@@ -119,7 +119,7 @@ pub typed_by : (s : State) (types : List Declaration) (ty : ℕ) (known : List F
 typed_by s types ty known vs is = ap (λ (o : Option (List FieldType)). typed_tests s (λ (i : ℕ). option_and_then (λ (fs : List FieldType). slice_get fs i) o) 0 vs) is
 
 -- a refusal by a test leaves all
-pub refused_on : (layouts : Layouts) (counter : Option ℕ) (limits : Limits) (s : State) (sh : shapes.Shape) (left : List (Bool × Refusal)) (why : Refusal) (store : StoreView ℕ) (runner : RunnerView) → HoldsState layouts store runner s → tells_pages why ≡ false → first_failing left ≡ Some why
+pub refused_on : (layouts : Layouts) (counter : Option ℕ) (limits : Limits) (s : State) (sh : shapes.CommandShape) (left : List (Bool × Refusal)) (why : Refusal) (store : StoreView ℕ) (runner : RunnerView) → HoldsState layouts store runner s → tells_pages why ≡ false → first_failing left ≡ Some why
     → RunsOn layouts counter limits limits s sh left (Ok (reply.Refused why)) store runner
 refused_on layouts counter limits s sh left why store runner holds mild found = record {
   after = s;
@@ -130,7 +130,7 @@ refused_on layouts counter limits s sh left why store runner holds mild found = 
 }
 
 -- what runs as the rest of its tests say, once the first ones passed
-pub runs_on : (layouts : Layouts) (counter : Option ℕ) (limits limits' : Limits) (s : State) (sh : shapes.Shape) (left rest : List (Bool × Refusal)) (result : Result Reply RunError) (new : StoreView ℕ) (runner : RunnerView) → first_failing left ≡ first_failing rest
+pub runs_on : (layouts : Layouts) (counter : Option ℕ) (limits limits' : Limits) (s : State) (sh : shapes.CommandShape) (left rest : List (Bool × Refusal)) (result : Result Reply RunError) (new : StoreView ℕ) (runner : RunnerView) → first_failing left ≡ first_failing rest
     → RunsOn layouts counter limits limits' s sh rest result new runner → RunsOn layouts counter limits limits' s sh left result new runner
 runs_on layouts counter limits limits' s sh left rest (Ok answer) new runner pass ran = record {
   after = ran.after;

@@ -19,14 +19,14 @@ use Rattle.gc_store.specs.Values.{RawStands}
 use Rattle.gc_values.specs.RawValues.{raw_handle}
 use Rattle.gc_script.specs.declared.objects.NamedObject.{NamedObject}
 use Rattle.gc_script.specs.declared.objects.Wanted.{Wanted}
-use Rattle.gc_script.specs.State.{State, Held, number, reference, Stands}
+use Rattle.gc_script.specs.State.{State, Held, number, reference, RegisterStands}
 use Rattle.gc_script.specs.Given.{Given, unset, gone, is, given_register, given_held, given_value, value_named, named, target, reference_target, object_target, names_kind, is_gone}
 use Rattle.gc_script.specs.Steps.{first_failing, target_tests}
-use Rattle.gc_script.specs.Values.{IsFound}
+use Rattle.gc_script.specs.Values.{IsFoundLive}
 use Rattle.gc_script.specs.Named.{wants, TellsObject, FoundObject}
 
 -- a register that is unset holds nothing
-pub unset_held : (s : StoreView ℕ) (t : Table ℕ) (held : Option Held) → Stands s t None held → given_held t held ≡ unset
+pub unset_held : (s : StoreView ℕ) (t : Table ℕ) (held : Option Held) → RegisterStands s t None held → given_held t held ≡ unset
 unset_held s t None stands = refl
 unset_held s t (Some (number v)) stands = absurd stands
 unset_held s t (Some (reference c None)) stands = absurd stands
@@ -76,7 +76,7 @@ not_null layouts store t holds handle null named c = let word = named_held layou
 not_null layouts store t holds handle (small n) named c = refl
 not_null layouts store t holds handle (at p) named c = refl
 
-module _ (store : StoreView ℕ) (s : State) (r : ℕ) (value : RawValue) (found : IsFound store s.table value (given_register s r) true) where
+module _ (store : StoreView ℕ) (s : State) (r : ℕ) (value : RawValue) (found : IsFoundLive store s.table value (given_register s r) true) where
   -- a register that is found and has no handle names nothing
   pub names_nothing : raw_handle value ≡ None → named s r ≡ None
   names_nothing plain = ap (λ (g : Given). value_named (given_value g)) found.1.0 ∙ plain_unnamed store s.table value found.0 plain found.1.1
@@ -104,7 +104,7 @@ module _ (kind : Wanted) (s : State) (r : ℕ) where
   pub gone_refused : given_register s r ≡ gone → first_failing (target_tests (wants kind) s r) ≡ Some refusal.Unrooted
   gone_refused is_gone = ap (λ (h : Given). refusal_by h (names_kind (wants kind) (target s r))) is_gone
 
-module _ (kind : Wanted) (store : StoreView ℕ) (s : State) (r : ℕ) (value : RawValue) (found : IsFound store s.table value (given_register s r) true) where
+module _ (kind : Wanted) (store : StoreView ℕ) (s : State) (r : ℕ) (value : RawValue) (found : IsFoundLive store s.table value (given_register s r) true) where
   module _ (layouts : Layouts) (holds : HoldsTable layouts store s.table) (handle : GcRootIndex) (is_handle : raw_handle value ≡ Some handle)
       (result : Option NamedObject) (tells : (q : Reference) → NamesReference store s.table handle q → TellsObject store s.table kind q result) where
     abbrev it : NamesRoot store s.table handle found.0

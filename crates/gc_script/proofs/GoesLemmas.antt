@@ -8,7 +8,7 @@ use Rattle.gc_types.specs.Declarations.{elem_at}
 use Rattle.gc_model.specs.Allocation.{Limits}
 use Rattle.gc_model.specs.Stores.{StoreView}
 use Rattle.gc_policy.specs.Policy as policy
-use Rattle.gc_store.specs.Requests.{fields_of, exn_fields_of}
+use Rattle.gc_store.specs.Requests.{struct_fields_of, exn_fields_of}
 use Rattle.gc_commands.specs.declared.command.Command.{Command}
 use Rattle.gc_commands.specs.declared.command.Command.TheVariants.{Bad, Struct, Array, Exn, New, NewExn, NewArr, Fixed, NewBytes, ReadBytes, Host, I31, Field, Elem, Len, HostNumber, SetField, SetElem, Eq, Enter, Leave, Push, Pop, Store, Load, SetGlobal, GetGlobal, Own, Root, Unroot, Throw, Take, Gc, GcInc, GcDrop, Grow, Cap}
 use Rattle.gc_commands.specs.declared.command.Operand.{Operand}
@@ -20,15 +20,15 @@ use Rattle.gc_script.specs.declared.runner.RunError.{RunError}
 use Rattle.gc_script.specs.Slots.{RunnerView}
 use Rattle.gc_script.specs.State.{State, HoldsState, visible}
 use Rattle.gc_script.specs.Built.{is_built}
-use Rattle.gc_script.specs.Shapes.{Shape, plain, declaring, making, growing, collecting, showing, shape, is_collection, new_struct, new_exception, new_array, new_fixed}
-use Rattle.gc_script.specs.Steps.{tests, built_tests, value_tests, all_value_tests, element_tests, heap_tests, first_failing, Answers, Does, declared, bad}
+use Rattle.gc_script.specs.Shapes.{CommandShape, plain, declaring, making, growing, collecting, showing, shape, is_collection, given_struct, new_exception, filled_array, new_fixed}
+use Rattle.gc_script.specs.Steps.{tests, built_tests, value_tests, all_value_tests, element_tests, heap_tests, first_failing, AnswersShape, Does, declared, bad}
 use Rattle.gc_script.specs.Policy.{policy_of, AsksNothing, FollowsTested, Came}
 use Rattle.gc_script.specs.Run.{SaysRefused, GoesOn, RunsOne, WantsAfter, wanted_bytes, asks_nothing}
 use Rattle.gc_script.proofs.CountLemmas.{tells, are_mild, append_mild, mild_found, says_other, counts_nothing}
 use Rattle.gc_script.proofs.TestLemmas.{stops, answers_by, follows_by}
 
 -- a shape that asks no limiter, and leaves the account
-abbrev pub AsksNone : Shape → Type 0
+abbrev pub AsksNone : CommandShape → Type 0
 AsksNone (plain effect) = Unit {0}
 AsksNone (declaring d) = Unit {0}
 AsksNone (making d class object) = ⊥
@@ -37,7 +37,7 @@ AsksNone (collecting told) = ⊥
 AsksNone showing = Unit {0}
 
 -- what a plain command answers
-abbrev pub plain_answer : Shape → State → Reply
+abbrev pub plain_answer : CommandShape → State → Reply
 plain_answer (plain effect) s = (effect s).0
 plain_answer _ s = reply.Done
 
@@ -62,18 +62,18 @@ value_mild s element v false = refl
 -- and no test does
 pub all_mild : (layouts : Layouts) (s : State) (c : Command) → are_mild (tests layouts s c) ≡ true
 all_mild layouts s (New d t vs) =
-    append_mild (all_value_tests s (fields_of s.table.types t) vs) (heap_tests layouts s (new_struct s t vs)) (values_mild s (fields_of s.table.types t) vs) refl
+    append_mild (all_value_tests s (struct_fields_of s.table.types t) vs) (heap_tests layouts s (given_struct s t vs)) (values_mild s (struct_fields_of s.table.types t) vs) refl
 all_mild layouts s (NewExn d t tag vs) =
     append_mild (all_value_tests s (exn_fields_of s.table.types t) vs) (heap_tests layouts s (new_exception s t tag vs)) (values_mild s (exn_fields_of s.table.types t) vs) refl
 all_mild layouts s (NewArr d t n v) =
-    append_mild (cond (n == 0) [] (value_tests s (elem_at s.table.types t) v)) (heap_tests layouts s (new_array s t n v)) (value_mild s (elem_at s.table.types t) v (n == 0)) refl
+    append_mild (cond (n == 0) [] (value_tests s (elem_at s.table.types t) v)) (heap_tests layouts s (filled_array s t n v)) (value_mild s (elem_at s.table.types t) v (n == 0)) refl
 all_mild layouts s (Fixed d t vs) =
     append_mild (element_tests s (elem_at s.table.types t) vs) (heap_tests layouts s (new_fixed s t vs)) (elements_mild s (elem_at s.table.types t) vs) refl
 all_mild layouts s c = refl
 
 module _ (layouts : Layouts) (limit : Option ℕ) (s : State) (answer : Reply) (s' : State) where
   -- what it does is the same under any limit, and the reply says nothing of pages that were refused
-  does_any : (sh : Shape) → tells (plain_answer sh (visible s)) ≡ false → AsksNone sh → Does layouts None s sh answer s' → Does layouts limit s sh answer s' × (¬ SaysRefused answer)
+  does_any : (sh : CommandShape) → tells (plain_answer sh (visible s)) ≡ false → AsksNone sh → Does layouts None s sh answer s' → Does layouts limit s sh answer s' × (¬ SaysRefused answer)
   does_any (plain effect) mild asks does = (does, says_other answer _ does.0 mild)
   does_any (declaring d) mild asks (declared new is may said after) = (declared new is may said after, says_other answer _ said refl)
   does_any (declaring d) mild asks (bad may said after) = (bad may said after, says_other answer _ said refl)
@@ -82,13 +82,13 @@ module _ (layouts : Layouts) (limit : Option ℕ) (s : State) (answer : Reply) (
   does_any (collecting told) mild asks does = absurd asks
   does_any showing mild asks does = (does, says_other answer _ does.0 refl)
 
-  answers_any : (c : Command) (found : Option Refusal) → AsksNone (shape c) → first_failing (tests layouts s c) ≡ found → Answers layouts None s (shape c) found answer s' → Answers layouts limit s (shape c) found answer s' × (¬ SaysRefused answer)
+  answers_any : (c : Command) (found : Option Refusal) → AsksNone (shape c) → first_failing (tests layouts s c) ≡ found → AnswersShape layouts None s (shape c) found answer s' → AnswersShape layouts limit s (shape c) found answer s' × (¬ SaysRefused answer)
   answers_any c None asks is answers = does_any (shape c) (mild c (visible s)) asks answers
   answers_any c (Some why) asks is answers = (answers, says_other answer (reply.Refused why) answers.0 (mild_found (tests layouts s c) why (all_mild layouts s c) is))
 
 module _ (layouts : Layouts) (counter : Option ℕ) (s : State) (limits : Limits) where
   -- it follows the policy by asking nothing
-  follows_any : (sh : Shape) (found : Option Refusal) (answer : Reply) (s' : State) → AsksNone sh → AsksNothing s limits s' limits → FollowsTested layouts counter s limits sh found answer s' limits
+  follows_any : (sh : CommandShape) (found : Option Refusal) (answer : Reply) (s' : State) → AsksNone sh → AsksNothing s limits s' limits → FollowsTested layouts counter s limits sh found answer s' limits
   follows_any sh (Some why) answer s' asks none = none
   follows_any (plain effect) None answer s' asks none = none
   follows_any (declaring d) None answer s' asks none = none
@@ -98,7 +98,7 @@ module _ (layouts : Layouts) (counter : Option ℕ) (s : State) (limits : Limits
   follows_any showing None answer s' asks none = none
 
   -- a command that wanted memory may not have begun
-  not_begun : (sh : Shape) (found : Option Refusal) → Came layouts counter s sh found (policy_of s limits) (policy_of s limits)
+  not_begun : (sh : CommandShape) (found : Option Refusal) → Came layouts counter s sh found (policy_of s limits) (policy_of s limits)
   not_begun sh (Some why) = refl
   not_begun (plain effect) None = refl
   not_begun (declaring d) None = refl
@@ -108,7 +108,7 @@ module _ (layouts : Layouts) (counter : Option ℕ) (s : State) (limits : Limits
   not_begun showing None = refl
 
 -- want of memory that leaves all
-pub wants_nothing : (layouts : Layouts) (counter : Option ℕ) (limits : Limits) (s : State) (sh : Shape) (found : Option Refusal) (new : StoreView ℕ) (runner : RunnerView) → HoldsState layouts new runner s → WantsAfter layouts counter limits limits s sh found new runner
+pub wants_nothing : (layouts : Layouts) (counter : Option ℕ) (limits : Limits) (s : State) (sh : CommandShape) (found : Option Refusal) (new : StoreView ℕ) (runner : RunnerView) → HoldsState layouts new runner s → WantsAfter layouts counter limits limits s sh found new runner
 wants_nothing layouts counter limits s sh found new runner holds = record {
   after = policy_of s limits;
   came = not_begun layouts counter s limits sh found;

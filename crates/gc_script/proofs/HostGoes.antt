@@ -32,7 +32,7 @@ use Rattle.gc_script.specs.Shapes.{shape, making, new_host, host_number}
 use Rattle.gc_script.specs.Steps.{first_failing, tests, heap_tests}
 use Rattle.gc_script.specs.Policy.{policy_of}
 use Rattle.gc_script.specs.Run.{GoesOn, RunsOn, RunsOne, WantsAfter}
-use Rattle.gc_script.specs.Values.{IsFound}
+use Rattle.gc_script.specs.Values.{IsFoundLive}
 use Rattle.gc_script.proofs.FoundLemmas.{NamesRoot, root_of, named_is, names_nothing}
 use Rattle.gc_script.proofs.PlainValues.{has_ids}
 use Rattle.gc_script.proofs.StandLemmas.{holds_table}
@@ -75,7 +75,7 @@ number_told (Some found) n e = ap (λ (x : Option ℕ). unwrap_or x 0) e
 abbrev host_by : Given → Bool → Option Refusal
 host_by g b = first_failing ((is_unset g, refusal.NoSuchName) ∷ (is_gone g, refusal.Unrooted) ∷ (not b, refusal.WrongKind) ∷ [])
 
-module _ (layouts : Layouts) (store : StoreView ℕ) (runner : RunnerView) (s : State) (r : ℕ) (value : RawValue) (holds : HoldsState layouts store runner s) (found : IsFound store s.table value (given_register s r) true) where
+module _ (layouts : Layouts) (store : StoreView ℕ) (runner : RunnerView) (s : State) (r : ℕ) (value : RawValue) (holds : HoldsState layouts store runner s) (found : IsFoundLive store s.table value (given_register s r) true) where
   tested : (b : Bool) → names_kind is_host (target s r) ≡ b → first_failing (tests layouts s (command.HostNumber r)) ≡ host_by (is found.0) b
   tested b kind = ap (λ (g : Given). host_by g (names_kind is_host (target s r))) found.1.0 ∙ ap (host_by (is found.0)) kind
 

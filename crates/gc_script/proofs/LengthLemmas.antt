@@ -22,11 +22,11 @@ use Rattle.gc_script.specs.declared.objects.NamedObject.{NamedObject}
 use Rattle.gc_script.specs.declared.objects.Wanted.TheVariants as wanted
 use Rattle.gc_script.specs.Slots.{RunnerView}
 use Rattle.gc_script.specs.State.{State, HoldsState}
-use Rattle.gc_script.specs.Given.{given_register, is_unset, target, target_values, field_of, is_array, is_byte, holds_bytes}
+use Rattle.gc_script.specs.Given.{given_register, is_unset, target, target_values, target_field, is_array, is_byte, holds_bytes}
 use Rattle.gc_script.specs.Shapes.{byte_of, shape}
 use Rattle.gc_script.specs.Steps.{first_failing, tests, target_tests}
 use Rattle.gc_script.specs.Run.{GoesOn}
-use Rattle.gc_script.specs.Named.{type_at, IsNamed, NamesObject, FoundObject}
+use Rattle.gc_script.specs.Named.{type_at, IsNamedSomewhere, DescribesObject, FoundObject}
 use Rattle.gc_script.specs.Wants.{MayWant}
 use Rattle.gc_script.proofs.StandLemmas.{holds_table}
 use Rattle.gc_script.proofs.TestLemmas.{passes, stops, passes_all, stops_all, answers_by, refuses}
@@ -57,7 +57,7 @@ array_of (host v) e = absurd (cc e)
 array_of (exception ty tag vs) e = absurd (cc e)
 
 -- what is found names an array of bytes
-names_bytes : (store : StoreView ℕ) (t : Table ℕ) (found : NamedObject) (names : NamesObject store t found) → is_array names.object ≡ true → holds_bytes (type_at t.types found.types 0) ≡ true → NamesBytes store t found.root (object_values names.object)
+names_bytes : (store : StoreView ℕ) (t : Table ℕ) (found : NamedObject) (names : DescribesObject store t found) → is_array names.object ≡ true → holds_bytes (type_at t.types found.types 0) ≡ true → NamesBytes store t found.root (object_values names.object)
 names_bytes store t found names kind bytes =
     let array = array_of names.object kind in
     let element = byte_type (type_at t.types found.types 0) bytes in
@@ -71,7 +71,7 @@ names_bytes store t found names kind bytes =
       of_bytes = element.1.1;
     }
 
-pub can_copy : (layouts : Layouts) (store : StoreView ℕ) (found : NamedObject) → IsNamed layouts store wanted.Array found → (bytes : Bool) → bytes ≡ holds_bytes (type_at store.types found.types 0) → bytes ≡ true → CanCopyBytes ℕ layouts store found.root found.count
+pub can_copy : (layouts : Layouts) (store : StoreView ℕ) (found : NamedObject) → IsNamedSomewhere layouts store wanted.Array found → (bytes : Bool) → bytes ≡ holds_bytes (type_at store.types found.types 0) → bytes ≡ true → CanCopyBytes ℕ layouts store found.root found.count
 can_copy layouts store found is bytes bytes_are yes_bytes = record {
   table = is.table;
   holds = is.holds;
@@ -114,7 +114,7 @@ module _ (layouts : Layouts) (store : StoreView ℕ) (runner : RunnerView) (s : 
     count_test = (not (length (target_values (target s r)) == n), refusal.LengthMismatch) ∷ []
 
     abbrev from_bytes : List (Bool × Refusal)
-    from_bytes = (not (holds_bytes (field_of s.table (target s r) 0)), refusal.NotI8Array) ∷ count_test
+    from_bytes = (not (holds_bytes (target_field s.table (target s r) 0)), refusal.NotI8Array) ∷ count_test
 
     to_array : first_failing (tests layouts s (command.ReadBytes r n)) ≡ first_failing (target_tests is_array s r ++ from_bytes)
     to_array = passes (is_unset (given_register s r)) refusal.NoSuchName (target_tests is_array s r ++ from_bytes) set
@@ -124,7 +124,7 @@ module _ (layouts : Layouts) (store : StoreView ℕ) (runner : RunnerView) (s : 
     no_array_bytes why e = refuses layouts store runner s (command.ReadBytes r n) why holds (to_array ∙ stops_all (target_tests is_array s r) from_bytes why e)
 
     module _ (found : NamedObject) (it : FoundObject store s wanted.Array r found) (bytes : Bool) (bytes_are : bytes ≡ holds_bytes (type_at store.types found.types 0)) where
-      element_bytes : holds_bytes (field_of s.table (target s r) 0) ≡ bytes
+      element_bytes : holds_bytes (target_field s.table (target s r) 0) ≡ bytes
       element_bytes =
           ap holds_bytes (field_found layouts store s wanted.Array r 0 found it)
           ∙ ap (λ (ts : List Declaration). holds_bytes (type_at ts found.types 0)) (sym (holds_table holds.table).1.types) ∙ sym bytes_are
@@ -135,11 +135,11 @@ module _ (layouts : Layouts) (store : StoreView ℕ) (runner : RunnerView) (s : 
       -- its elements are wider
       pub not_bytes : bytes ≡ false → GoesOn layouts s (command.ReadBytes r n) (Ok (reply.Refused refusal.NotI8Array)) store runner
       not_bytes no_bytes = refuses layouts store runner s (command.ReadBytes r n) refusal.NotI8Array holds
-          (to_bytes ∙ stops (not (holds_bytes (field_of s.table (target s r) 0))) refusal.NotI8Array count_test (ap not (element_bytes ∙ no_bytes)))
+          (to_bytes ∙ stops (not (holds_bytes (target_field s.table (target s r) 0))) refusal.NotI8Array count_test (ap not (element_bytes ∙ no_bytes)))
 
       module _ (are_bytes : bytes ≡ true) where
         to_count : first_failing (tests layouts s (command.ReadBytes r n)) ≡ first_failing count_test
-        to_count = to_bytes ∙ passes (not (holds_bytes (field_of s.table (target s r) 0))) refusal.NotI8Array count_test (ap not (element_bytes ∙ are_bytes))
+        to_count = to_bytes ∙ passes (not (holds_bytes (target_field s.table (target s r) 0))) refusal.NotI8Array count_test (ap not (element_bytes ∙ are_bytes))
 
         -- it has another length
         pub other_length : found.count ≢ n → GoesOn layouts s (command.ReadBytes r n) (Ok (reply.Refused refusal.LengthMismatch)) store runner

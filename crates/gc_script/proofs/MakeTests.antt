@@ -13,7 +13,7 @@ use Rattle.gc_types.specs.Declarations.{Declaration, Shape, struct_of, array_of,
 use Rattle.gc_model.specs.Allocation.{Limits}
 use Rattle.gc_model.specs.Stores.{StoreView}
 use Rattle.gc_values.specs.declared.root.RawValue.{RawValue}
-use Rattle.gc_store.specs.Requests.{fields_of}
+use Rattle.gc_store.specs.Requests.{struct_fields_of}
 use Rattle.gc_commands.specs.declared.command.Command.{Command}
 use Rattle.gc_commands.specs.declared.command.Command.TheVariants.{New, NewArr, Fixed, NewBytes}
 use Rattle.gc_commands.specs.declared.command.Operand.{Operand}
@@ -24,10 +24,10 @@ use Rattle.gc_model.specs.Table.{Table}
 use Rattle.gc_script.specs.declared.runner.RunError.{RunError}
 use Rattle.gc_script.specs.declared.objects.ValueTypes.TheVariants as types_of
 use Rattle.gc_script.specs.Slots.{RunnerView}
-use Rattle.gc_script.specs.State.{State, Stands}
+use Rattle.gc_script.specs.State.{State, RegisterStands}
 use Rattle.gc_script.specs.Given.{held_operand, given, is_unset, holds_bytes}
 use Rattle.gc_script.specs.Steps.{tests, first_failing, any_unset, count_in, value_tests, all_value_tests, element_tests, heap_tests}
-use Rattle.gc_script.specs.Shapes.{shape, new_struct, new_array, new_fixed, new_bytes}
+use Rattle.gc_script.specs.Shapes.{shape, given_struct, filled_array, new_fixed, new_bytes}
 use Rattle.gc_script.specs.Run.{WantsAfter, RunsOn, RunsOne}
 use Rattle.gc_script.specs.Named.{type_at}
 use Rattle.gc_script.specs.Values.{AllHeld, typed_tests}
@@ -80,7 +80,7 @@ field_tests s (f ∷ fields) (v ∷ vs) e =
     ap (λ (ts : List (Bool × Refusal)). value_tests s (Some f) v ++ ts) (later_tests s (slice_get (f ∷ fields)) 0 vs ∙ field_tests s fields vs rest)
 
 -- those of the values of a struct type
-pub struct_tests : (s : State) (t : ℕ) (fields : List FieldType) (vs : List Operand) → struct_fields_at s.table.types t ≡ Some fields → length vs ≡ length fields → typed_tests s (type_at s.table.types (types_of.Fields t)) 0 vs ≡ all_value_tests s (fields_of s.table.types t) vs
+pub struct_tests : (s : State) (t : ℕ) (fields : List FieldType) (vs : List Operand) → struct_fields_at s.table.types t ≡ Some fields → length vs ≡ length fields → typed_tests s (type_at s.table.types (types_of.Fields t)) 0 vs ≡ all_value_tests s (struct_fields_of s.table.types t) vs
 struct_tests s t fields vs declared many =
     ap (λ (o : Option (List FieldType)). typed_tests s (λ (i : ℕ). option_and_then (λ (fs : List FieldType). slice_get fs i) o) 0 vs) (struct_types s.table.types t fields declared)
     ∙ field_tests s fields vs many
@@ -101,7 +101,7 @@ all_set store s (v ∷ vs) (r ∷ raws) all =
 
 -- as many values as operands
 pub held_count : (store : StoreView ℕ) (s : State) (vs : List Operand) (raws : List RawValue) → AllHeld store s vs raws → length raws ≡ length vs
-held_count store s vs raws all = AllZip-long (λ (v : Operand) (r : RawValue). Stands store s.table (Some r) (held_operand s v)) vs raws all
+held_count store s vs raws all = AllZip-long (λ (v : Operand) (r : RawValue). RegisterStands store s.table (Some r) (held_operand s v)) vs raws all
 
 -- what is declared, by a count of fields
 pub counted_fields : (o : Option (List FieldType)) (n : ℕ) → option_map length o ≡ Some n → (fields : List FieldType) × ((o ≡ Some fields) × (length fields ≡ n))
@@ -110,10 +110,10 @@ counted_fields (Some fields) n e = let is : length fields ≡ n = grind (arith, 
 
 module _ (layouts : Layouts) (s : State) (d t : ℕ) (vs : List Operand) where
   abbrev struct_rest : List (Bool × Refusal)
-  struct_rest = heap_tests layouts s (new_struct s t vs)
+  struct_rest = heap_tests layouts s (given_struct s t vs)
 
   abbrev struct_values : List (Bool × Refusal)
-  struct_values = all_value_tests s (fields_of s.table.types t) vs
+  struct_values = all_value_tests s (struct_fields_of s.table.types t) vs
 
   abbrev from_count : List (Bool × Refusal)
   from_count = (not (length vs == field_count s.table t), refusal.FieldCount) ∷ (struct_values ++ struct_rest)
@@ -165,7 +165,7 @@ module _ (layouts : Layouts) (s : State) (d t : ℕ) (vs : List Operand) where
 module _ (layouts : Layouts) (s : State) (d t : ℕ) where
   module _ (n : ℕ) (v : Operand) where
     abbrev array_rest : List (Bool × Refusal)
-    array_rest = heap_tests layouts s (new_array s t n v)
+    array_rest = heap_tests layouts s (filled_array s t n v)
 
     abbrev array_value : List (Bool × Refusal)
     array_value = cond (n == 0) [] (value_tests s (elem_at s.table.types t) v)

@@ -20,7 +20,7 @@ use Rattle.gc_script.specs.Given.{Given, is, given_register, named, is_unset, is
 use Rattle.gc_script.specs.Steps.{first_failing, tests}
 use Rattle.gc_script.specs.Shapes.{shape}
 use Rattle.gc_script.specs.Run.{GoesOn}
-use Rattle.gc_script.specs.Values.{IsFound}
+use Rattle.gc_script.specs.Values.{IsFoundLive}
 use Rattle.gc_script.proofs.StandLemmas.{holds_table}
 use Rattle.gc_script.proofs.TestLemmas.{answers_by}
 use Rattle.gc_script.proofs.FoundLemmas.{NamesRoot, root_of, named_is}
@@ -45,7 +45,7 @@ eq_tests_by layouts s r q g h x y g_is h_is x_is y_is =
 
 module _ (layouts : Layouts) (store : StoreView ℕ) (runner : RunnerView) (s : State) (r q : ℕ) (first second : RawValue) (a b : GcRootIndex) (answer : Result Bool RootFault)
     (holds : HoldsState layouts store runner s) (is_a : raw_handle first ≡ Some a) (is_b : raw_handle second ≡ Some b)
-    (found_first : IsFound store s.table first (given_register s r) true) (found_second : IsFound store s.table second (given_register s q) true)
+    (found_first : IsFoundLive store s.table first (given_register s r) true) (found_second : IsFoundLive store s.table second (given_register s q) true)
     (tells : (x y : Reference) → NamesReference store s.table a x → NamesReference store s.table b y → answer ≡ Ok (same_reference x y)) where
   abbrev one : NamesRoot store s.table a found_first.0
   one = root_of store s r first found_first layouts (holds_table holds.table) a is_a

@@ -30,7 +30,7 @@ use Rattle.gc_script.specs.declared.objects.ValueTypes.TheVariants as types_of
 use Rattle.gc_script.specs.declared.objects.Wanted.{Wanted}
 use Rattle.gc_script.specs.declared.objects.Wanted.TheVariants as wanted
 use Rattle.gc_script.specs.Given.{object_target, names_kind}
-use Rattle.gc_script.specs.Named.{wants, takes, count_of_fields, type_at, with_fields, with_elements, described, IsNamed, TellsObject}
+use Rattle.gc_script.specs.Named.{wants, takes, count_of_fields, type_at, with_fields, with_elements, described, IsNamedSomewhere, TellsObject}
 
 -- the fields of a type, by its shape
 fields_are : (d : Option Declaration) (shape : Shape) → option_map (λ (x : Declaration). x.shape) d ≡ Some shape → declaration_fields d ≡ shape_fields shape
@@ -191,11 +191,11 @@ module _ (layouts : Layouts) (store : StoreView ℕ) (t : Table ℕ) (holds : Ho
     tells_other (at p) is other = not_at p (slice_get t.objects p) is other
 
 -- what is told of a root in a table that the store holds
-pub is_named : (layouts : Layouts) (store : StoreView ℕ) (t : Table ℕ) (kind : Wanted) (r : Reference) (found : Option NamedObject) → HoldsTable layouts store t → TellsObject store t kind r found → IfSome found (IsNamed layouts store kind)
+pub is_named : (layouts : Layouts) (store : StoreView ℕ) (t : Table ℕ) (kind : Wanted) (r : Reference) (found : Option NamedObject) → HoldsTable layouts store t → TellsObject store t kind r found → IfSome found (IsNamedSomewhere layouts store kind)
 is_named layouts store t kind r None holds tells = tt
 is_named layouts store t kind r (Some found) holds tells = record { table = t; holds = holds; names = tells.0; of_kind = tells.1.1 }
 
-pub found_named : (layouts : Layouts) (store : StoreView ℕ) (root : GcRootIndex) (kind : Wanted) (object : RootedObject) → FindsRoot ℕ layouts store root object → takes kind object ≡ true → IfSome (described store.types root object) (IsNamed layouts store kind)
+pub found_named : (layouts : Layouts) (store : StoreView ℕ) (root : GcRootIndex) (kind : Wanted) (object : RootedObject) → FindsRoot ℕ layouts store root object → takes kind object ≡ true → IfSome (described store.types root object) (IsNamedSomewhere layouts store kind)
 found_named layouts store root kind object finds taken =
     is_named layouts store finds.table kind finds.root (described store.types root object) finds.holds
     (tells_taken layouts store finds.table finds.holds root kind object finds.root finds.named finds.is taken)

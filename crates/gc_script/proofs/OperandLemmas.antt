@@ -13,7 +13,7 @@ use Rattle.gc_values.specs.declared.root.RawValue.{RawValue}
 use Rattle.gc_values.specs.declared.root.RawValue.TheVariants as raw
 use Rattle.gc_commands.specs.declared.command.Operand.{Operand}
 use Rattle.gc_commands.specs.declared.command.Operand.TheVariants as operand
-use Rattle.gc_script.specs.State.{State, Held, Stands}
+use Rattle.gc_script.specs.State.{State, Held, RegisterStands}
 use Rattle.gc_script.specs.Given.{held_operand, given, given_held, is_unset}
 use Rattle.gc_script.specs.Steps.{any_unset}
 use Rattle.gc_script.proofs.FoundLemmas.{unset_held}
@@ -39,7 +39,7 @@ has_unset slots vs i v lt is none store s are =
     (subst (λ (x : Operand). is_unset (given s x) ≡ true) is (ap is_unset (unset_held store s.table (held_operand s v) (none store s are))))
 
 -- what an operand that is set holds
-held_by : (store : StoreView ℕ) (t : Table ℕ) (found : Option RawValue) (held : Option Held) → Stands store t found held → is_unset (given_held t held) ≡ false → Stands store t (Some (unwrap_or found (raw.Ref class.Any None))) held
+held_by : (store : StoreView ℕ) (t : Table ℕ) (found : Option RawValue) (held : Option Held) → RegisterStands store t found held → is_unset (given_held t held) ≡ false → RegisterStands store t (Some (unwrap_or found (raw.Ref class.Any None))) held
 held_by store t None held stands set = absurd (cc (sym set ∙ ap is_unset (unset_held store t held stands)))
 held_by store t (Some r) held stands set = stands
 
@@ -60,7 +60,7 @@ abbrev pub PassedSet : List (Option RawValue) → List Operand → ℕ → Type 
 PassedSet slots vs i = (store : StoreView ℕ) (s : State) → AreRegisters store slots s → any_unset s vs ≡ any_unset s (drop i vs)
 
 -- an operand that holds a value is set
-set_by : (store : StoreView ℕ) (t : Table ℕ) (found : Option RawValue) (held : Option Held) → is_some found ≡ true → Stands store t found held → is_unset (given_held t held) ≡ false
+set_by : (store : StoreView ℕ) (t : Table ℕ) (found : Option RawValue) (held : Option Held) → is_some found ≡ true → RegisterStands store t found held → is_unset (given_held t held) ≡ false
 set_by store t None held some stands = absurd (cc some)
 set_by store t (Some r) held some stands = is_set store t r held stands
 

@@ -12,7 +12,7 @@ use Rattle.gc_owner.specs.declared.entry.GcClass.{GcClass}
 use Rattle.gc_model.specs.Values.{Reference, null, small, at, Value, numeric, function, continuation}
 use Rattle.gc_model.specs.Values as values
 use Rattle.gc_model.specs.Table.{Table, Owned, push}
-use Rattle.gc_model.specs.OwnedRoots.{own, drop_handle, owned_among, owned_full, handles_changed, with_handles}
+use Rattle.gc_model.specs.OwnedRoots.{own, drop_handle, owned_among, owned_full, handles_changed, handled_roots}
 use Rattle.gc_model.specs.Live.{roots_full}
 use Rattle.gc_model.specs.Stores.{StoreView}
 use Rattle.gc_model.proofs.OwnedRoots.{owned_found, owned_one}
@@ -34,7 +34,7 @@ use Rattle.gc_commands.specs.declared.reply.Reply.TheVariants as reply
 use Rattle.gc_commands.specs.declared.reply.Refusal.{Refusal}
 use Rattle.gc_commands.specs.declared.reply.Refusal.TheVariants as refusal
 use Rattle.gc_script.specs.Slots.{RunnerView, register_at, option_join}
-use Rattle.gc_script.specs.State.{State, HeldOwned, owned, unrooted, Stands, StandsOwned, HoldsState, visible, over}
+use Rattle.gc_script.specs.State.{State, HeldOwned, owned, unrooted, RegisterStands, StandsOwned, HoldsState, visible, over}
 use Rattle.gc_script.specs.Given.{Given, unset, gone, is, given_register, given_value}
 use Rattle.gc_script.specs.Shapes.{shape, slot_of, give_up, owns_as, owned_named, owned_class, roots_as, unroots}
 use Rattle.gc_script.specs.Steps.{tests, first_failing, owning_tests, owned_tests}
@@ -133,14 +133,14 @@ owned_unset s held stands = by (owned_cases s None held stands)
 -- Giving up
 
 -- a number that none has changes nothing
-pub drop_none : (n : ℕ) (roots : List Owned) → ((root : Owned) → Contains roots root → (root.number ≢ n) × (0 < root.handles)) → with_handles (handles_changed n (λ m. m - 1) roots) ≡ roots
+pub drop_none : (n : ℕ) (roots : List Owned) → ((root : Owned) → Contains roots root → (root.number ≢ n) × (0 < root.handles)) → handled_roots (handles_changed n (λ m. m - 1) roots) ≡ roots
 drop_none n [] all = refl
 drop_none n (x ∷ xs) all =
     let here = all x (Contains-append_left (x ∷ []) xs x (0, omega arith, refl)) in
     let some = here.1 in
     let rest = drop_none n xs (λ root c. all root (Contains-append_right (x ∷ []) xs root c)) in
-    ap (λ b. with_handles (cond b (record x { handles = x.handles - 1 }) x ∷ handles_changed n (λ m. m - 1) xs)) (ne_eqb x.number n here.0)
-    ∙ ap (λ b. cond b (x ∷ with_handles (handles_changed n (λ m. m - 1) xs)) (with_handles (handles_changed n (λ m. m - 1) xs))) (ap not (ne_eqb x.handles 0 (λ none. absurd (omega (arith, none, some)))))
+    ap (λ b. handled_roots (cond b (record x { handles = x.handles - 1 }) x ∷ handles_changed n (λ m. m - 1) xs)) (ne_eqb x.number n here.0)
+    ∙ ap (λ b. cond b (x ∷ handled_roots (handles_changed n (λ m. m - 1) xs)) (handled_roots (handles_changed n (λ m. m - 1) xs))) (ap not (ne_eqb x.handles 0 (λ none. absurd (omega (arith, none, some)))))
     ∙ ap (λ ys. x ∷ ys) rest
 
 module _ (layouts : Layouts) (s new : StoreView ℕ) (t : Table ℕ) (a : Account) (holds : HoldsAccount layouts s t a) (handle : GcRootIndex) (n : ℕ) (c : GcClass) (is_handle : handle ≡ owned_handle s n) where
@@ -213,7 +213,7 @@ pub record KeepsRegisters (runner runner' : RunnerView) : Type 0 where
 pub holds_room : (layouts : Layouts) (store new : StoreView ℕ) (runner runner' : RunnerView) (s : State) → IsSameStore store new → KeepsRegisters runner runner' → HoldsState layouts store runner s → HoldsAccount layouts new s.table s.account → HoldsState layouts new runner' s
 holds_room layouts store new runner runner' s same keeps holds table = record {
   table = table;
-  registers = λ d. subst (λ (x : Option RawValue). Stands new s.table x (s.registers d)) (sym (keeps.registers d)) (stands_kept store new s.table s.table (register_at runner.registers d) (s.registers d) same (λ i p e. e) (holds.registers d));
+  registers = λ d. subst (λ (x : Option RawValue). RegisterStands new s.table x (s.registers d)) (sym (keeps.registers d)) (stands_kept store new s.table s.table (register_at runner.registers d) (s.registers d) same (λ i p e. e) (holds.registers d));
   owned = λ o. subst (λ (x : Option RawValue). StandsOwned new x (s.owned_registers o)) (sym (keeps.owned o)) (owned_stands store new (register_at runner.rest.owned o) (s.owned_registers o) same (holds.owned o));
   marks = keeps.marks ∙ holds.marks;
 }
@@ -277,7 +277,7 @@ module _ (layouts : Layouts) (store : StoreView ℕ) (runner : RunnerView) (s : 
             account = refl;
             holds = record {
               table = table2;
-              registers = λ d. subst (λ (x : Option RawValue). Stands new after.table x (s.registers d)) (sym (registers_are d)) (stands_kept store new s.table after.table (register_at runner.registers d) (s.registers d) whole (λ i p e. e) (holds.registers d));
+              registers = λ d. subst (λ (x : Option RawValue). RegisterStands new after.table x (s.registers d)) (sym (registers_are d)) (stands_kept store new s.table after.table (register_at runner.registers d) (s.registers d) whole (λ i p e. e) (holds.registers d));
               owned = set_owned_stands new runner.rest.owned runner'.rest.owned s.owned_registers o (raw.Ref c (Some made)) (owned c s.table.owns)
                   (owned_stands mid new (Some (raw.Ref c (Some made))) (Some (owned c s.table.owns)) then (refl, did.made_is)) set others
                   (λ k. owned_stands store new (register_at runner.rest.owned k) (s.owned_registers k) whole (holds.owned k));
@@ -431,7 +431,7 @@ module _ (layouts : Layouts) (store : StoreView ℕ) (runner : RunnerView) (s : 
               account = refl;
               holds = record {
                 table = table;
-                registers = λ d. subst (λ (x : Option RawValue). Stands new after.table x (s.registers d)) (sym (registers_are d)) (stands_kept store new s.table after.table (register_at runner.registers d) (s.registers d) same (λ i p e. e) (holds.registers d));
+                registers = λ d. subst (λ (x : Option RawValue). RegisterStands new after.table x (s.registers d)) (sym (registers_are d)) (stands_kept store new s.table after.table (register_at runner.registers d) (s.registers d) same (λ i p e. e) (holds.registers d));
                 owned = set_owned_stands new runner.rest.owned runner'.rest.owned s.owned_registers o (raw.Ref c None) unrooted tt set others
                     (λ k. owned_stands store new (register_at runner.rest.owned k) (s.owned_registers k) same (holds.owned k));
                 marks = marks_are ∙ holds.marks;

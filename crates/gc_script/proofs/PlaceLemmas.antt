@@ -24,7 +24,7 @@ use Rattle.gc_commands.specs.declared.reply.Refusal.TheVariants as refusal
 use Rattle.gc_script.specs.declared.runner.RunError.{RunError}
 use Rattle.gc_script.specs.Slots.{register_at, RunnerView}
 use Rattle.gc_script.specs.State.{State, reference, HoldsState, with_heap, set_register, visible}
-use Rattle.gc_script.specs.Shapes.{Shape, making}
+use Rattle.gc_script.specs.Shapes.{CommandShape, making}
 use Rattle.gc_script.specs.Steps.{first_failing, heap_tests, made, lacks}
 use Rattle.gc_policy.specs.Policy.{PolicyState}
 use Rattle.gc_script.specs.Policy.{policy_of, Came, CameDoing}
@@ -52,7 +52,7 @@ made_position layouts limit places o t t' allocates =
     omega (arith, sym (length-append t'.objects (o ∷ [])) ∙ both ∙ length-append t.objects (o ∷ []))
 
 -- an allocation that wanted memory had come as far as told, where its tests passed
-came_there : (layouts : Layouts) (counter : Option ℕ) (s : State) (limits : Limits) (sh : Shape) (found : Option Refusal) (q : PolicyState ℕ) {small not_full : Type 0} → CameDoing layouts counter s sh (policy_of s limits) q → (q ≡ policy_of s limits) ⊎ (small × not_full) → (small → not_full → found ≡ None) → Came layouts counter s sh found (policy_of s limits) q
+came_there : (layouts : Layouts) (counter : Option ℕ) (s : State) (limits : Limits) (sh : CommandShape) (found : Option Refusal) (q : PolicyState ℕ) {small not_full : Type 0} → CameDoing layouts counter s sh (policy_of s limits) q → (q ≡ policy_of s limits) ⊎ (small × not_full) → (small → not_full → found ≡ None) → Came layouts counter s sh found (policy_of s limits) q
 came_there layouts counter s limits sh None q came begun pass = came
 came_there layouts counter s limits sh (Some why) q came (inl same) pass = same
 came_there layouts counter s limits sh (Some why) q came (inr both) pass = absurd (cc (pass both.0 both.1))

@@ -27,7 +27,7 @@ use Rattle.gc_values.specs.declared.request.Place.TheVariants as place
 use Rattle.gc_values.specs.declared.request.Contents.{Contents}
 use Rattle.gc_values.specs.declared.request.Contents.TheVariants as contents
 use Rattle.gc_store.specs.Places.{HasIds, lacks_ids}
-use Rattle.gc_store.specs.Requests.{fields_of, exn_fields_of, element_of, CanPlaceFields, CanPlaceSame, CanPlaceIn, IsFilled, IsObjectOf}
+use Rattle.gc_store.specs.Requests.{struct_fields_of, exn_fields_of, element_of, CanPlaceFields, CanPlaceSame, CanPlaceIn, IsFilled, IsObjectOf}
 use Rattle.gc_store.specs.Roots.{NamesReference}
 use Rattle.gc_store.specs.Values.{RawStands, AllStand, IsLive, NamesLive}
 use Rattle.gc_store.proofs.HandleWords.{names_word, live_has_word}
@@ -173,7 +173,7 @@ module _ (layouts : Layouts) (s : StoreView ℕ) (t : Table ℕ) (holds : HoldsT
   pub requested_plain : (request : Place) (given : Contents) → CanPlaceIn ℕ layouts s request given → IsPlainRequest request given → RequestedPlain request given
   requested_plain (place.Struct ty) (contents.Each vs) can plain =
       let all = all_stand_plain vs.now (fields_live (struct_fields_at s.types ty) vs.now can) plain in
-      (struct ty (stored_in (fields_of t.types ty) all.0), ((all.0, (all.1.0, refl)), all_stored (fields_of t.types ty) all.0 all.1.1))
+      (struct ty (stored_in (struct_fields_of t.types ty) all.0), ((all.0, (all.1.0, refl)), all_stored (struct_fields_of t.types ty) all.0 all.1.1))
   requested_plain (place.Struct ty) (contents.Same v) can plain = absurd can
   requested_plain (place.Struct ty) (contents.Bytes bytes) can plain = absurd can
   requested_plain (place.Exn ty tag) (contents.Each vs) can plain =

@@ -21,23 +21,23 @@ use Rattle.gc_store.specs.Requests.{CanPlaceStruct, CanPlaceElements}
 use Rattle.gc_script.specs.declared.objects.ValueTypes.TheVariants as types_of
 use Rattle.gc_script.specs.State.{State}
 use Rattle.gc_script.specs.Steps.{first_failing, heap_tests}
-use Rattle.gc_script.specs.Values.{CanStoreAs, AllStorable}
+use Rattle.gc_script.specs.Values.{CanStoreRaw, AllRawStorable}
 use Rattle.gc_script.proofs.TestLemmas.{stops}
 use Rattle.gc_script.proofs.MakeTests.{struct_types}
 
 -- values that may be stored may be those of a struct
-pub struct_request : (layouts : Layouts) (store : StoreView ℕ) (t : ℕ) (raws : List RawValue) (fields : List FieldType) → struct_fields_at store.types t ≡ Some fields → length raws ≡ length fields → AllStorable layouts store (types_of.Fields t) raws → CanPlaceStruct ℕ layouts store t raws
+pub struct_request : (layouts : Layouts) (store : StoreView ℕ) (t : ℕ) (raws : List RawValue) (fields : List FieldType) → struct_fields_at store.types t ≡ Some fields → length raws ≡ length fields → AllRawStorable layouts store (types_of.Fields t) raws → CanPlaceStruct ℕ layouts store t raws
 struct_request layouts store t raws fields declared many all = record {
   fields = fields;
   declared = declared;
   same_count = many;
   each = λ i field r field_is r_is.
-      subst (λ (f : Option FieldType). CanStoreAs layouts store f r)
+      subst (λ (f : Option FieldType). CanStoreRaw layouts store f r)
       (ap (option_and_then (λ (fs : List FieldType). slice_get fs i)) (struct_types store.types t fields declared) ∙ field_is) (all i r r_is);
 }
 
 -- or the elements of an array
-pub elements_request : (layouts : Layouts) (store : StoreView ℕ) (t n : ℕ) (raws : List RawValue) (element : FieldType) → elem_at store.types t ≡ Some element → length raws ≡ n → AllStorable layouts store (types_of.Elements element) raws → CanPlaceElements ℕ layouts store t n raws
+pub elements_request : (layouts : Layouts) (store : StoreView ℕ) (t n : ℕ) (raws : List RawValue) (element : FieldType) → elem_at store.types t ≡ Some element → length raws ≡ n → AllRawStorable layouts store (types_of.Elements element) raws → CanPlaceElements ℕ layouts store t n raws
 elements_request layouts store t n raws element declared many all = record {
   element = element;
   declared = declared;

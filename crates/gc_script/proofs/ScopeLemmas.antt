@@ -13,7 +13,7 @@ use Rattle.gc_commands.specs.declared.reply.Reply.TheVariants as reply
 use Rattle.gc_commands.specs.declared.reply.Refusal.TheVariants as refusal
 use Rattle.gc_script.specs.Slots.{RunnerView, register_at}
 use Rattle.gc_script.specs.State.{State, StandsOwned, HoldsState, with_marks, with_table}
-use Rattle.gc_script.specs.Shapes.{shape, newest, older}
+use Rattle.gc_script.specs.Shapes.{shape, newest_mark, older}
 use Rattle.gc_script.specs.Steps.{tests, first_failing, is_empty_list}
 use Rattle.gc_script.specs.Run.{GoesOn}
 use Rattle.gc_script.proofs.StandLemmas.{holds_kept}
@@ -37,7 +37,7 @@ not_empty : (olds : List ℕ) (mark : ℕ) → is_empty_list (olds ++ mark ∷ [
 not_empty [] mark = refl
 not_empty (m ∷ olds) mark = refl
 
-newest-push : (olds : List ℕ) (mark : ℕ) → newest (olds ++ mark ∷ []) ≡ mark
+newest-push : (olds : List ℕ) (mark : ℕ) → newest_mark (olds ++ mark ∷ []) ≡ mark
 newest-push olds mark = let long = length-append olds (mark ∷ []) in get_or_push olds mark 0 (length (olds ++ mark ∷ []) - 1) (omega (arith, long))
 
 older-push : (olds : List ℕ) (mark : ℕ) → older (olds ++ mark ∷ []) ≡ olds
@@ -57,7 +57,7 @@ left layouts old new runner runner' s olds mark scope same holds marks registers
       after = record s { table = leave mark s.table; marks = olds };
       answers = answers_by layouts None s (shape command.Leave) (first_failing (tests layouts s command.Leave)) None reply.Done _
           (passes (is_empty_list s.marks) refusal.NoSuchName [] (ap is_empty_list before ∙ not_empty olds mark))
-          (refl, ap₂ (λ (m : ℕ) (ms : List ℕ). with_marks ms (with_table (leave m s.table) s)) (sym (ap newest before ∙ newest-push olds mark)) (sym (ap older before ∙ older-push olds mark)));
+          (refl, ap₂ (λ (m : ℕ) (ms : List ℕ). with_marks ms (with_table (leave m s.table) s)) (sym (ap newest_mark before ∙ newest-push olds mark)) (sym (ap older before ∙ older-push olds mark)));
       account = refl;
       holds = record { table = table_after; registers = kept.registers; owned = λ o. subst (λ slots. StandsOwned new (register_at slots o) (s.owned_registers o)) (sym owned_are) (kept.owned o); marks = marks_are };
     }

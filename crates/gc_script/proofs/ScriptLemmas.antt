@@ -12,7 +12,7 @@ use Rattle.gc_script.specs.State.{State, HoldsState}
 use Rattle.gc_script.specs.Shapes.{is_collection}
 use Rattle.gc_script.specs.Steps.{Step}
 use Rattle.gc_script.specs.Policy.{Follows, RunByPolicy}
-use Rattle.gc_script.specs.Run.{Counts, told, overlooked, nothing, wanted_bytes, WantsMemory}
+use Rattle.gc_script.specs.Run.{LimiterCounts, told, overlooked, nothing, wanted_bytes, WantsMemory}
 use Rattle.gc_script.specs.Script.{AddsRefused, RefusedIn, RanScript, RanNext, EndedScript, StoppedScript}
 use Rattle.gc_script.proofs.CountLemmas.{says_other}
 use Rattle.gc_script.proofs.KeptLemmas.{no_last, last_command}
@@ -65,7 +65,7 @@ record Adds (r : Reply) (mid : State) (bytes : ℕ) (limits next : Limits) (refu
 count_more : (before refused now k : ℕ) → k ≤ 1 → min (before + refused) (2 ^ 64 - 1) ≤ now → min (before + (refused + k)) (2 ^ 64 - 1) ≤ min (now + 1) (2 ^ 64 - 1)
 count_more before refused now k few so_far = omega (arith, few, so_far)
 
-adds_by : (bytes : ℕ) (limits now next : Limits) (refused : ℕ) (r : Reply) (mid : State) → CountedSo limits now refused → Counts bytes now next r mid → Adds r mid bytes limits next refused
+adds_by : (bytes : ℕ) (limits now next : Limits) (refused : ℕ) (r : Reply) (mid : State) → CountedSo limits now refused → LimiterCounts bytes now next r mid → Adds r mid bytes limits next refused
 adds_by bytes limits now next refused r mid so_far (told is_asked refuses) = record {
   k = 1;
   adds = λ n. inl (is_asked, refl);

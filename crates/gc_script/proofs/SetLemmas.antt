@@ -10,11 +10,11 @@ use Rattle.gc_model.proofs.Lists.{slice_get-push_new}
 use Rattle.gc_values.specs.declared.root.GcRootIndex.{GcRootIndex}
 use Rattle.gc_values.specs.declared.root.RawValue.{RawValue}
 use Rattle.gc_values.specs.declared.root.RawValue.TheVariants as raw
-use Rattle.gc_store.specs.Roots.{Names, handle_of}
+use Rattle.gc_store.specs.Roots.{NamesSerial, handle_of}
 use Rattle.gc_store.specs.Stores.{IsSameStore}
 use Rattle.gc_policy.specs.Accounts.{Account, HoldsAccount}
 use Rattle.gc_script.specs.Slots.{register_at, RunnerRest, RunnerView}
-use Rattle.gc_script.specs.State.{State, Held, reference, Stands, HoldsState, with_heap, set_register}
+use Rattle.gc_script.specs.State.{State, Held, reference, RegisterStands, HoldsState, with_heap, set_register}
 use Rattle.gc_script.proofs.StandLemmas.{Keeps, keeps_pushed, owned_kept, holds_kept}
 
 -- the push that a new scoped root is
@@ -22,26 +22,26 @@ abbrev pub next_push : Table ℕ → Push
 next_push t = record { index = length t.scoped; generation = t.drops }
 
 -- the handle of a root that was just pushed names it
-pub pushed_names : (new : StoreView ℕ) (t t' : Table ℕ) (handle : GcRootIndex) → t'.pushes ≡ t.pushes ++ next_push t ∷ [] → handle ≡ handle_of new (length t.scoped) t.drops → Names new t' handle (length t.pushes)
+pub pushed_names : (new : StoreView ℕ) (t t' : Table ℕ) (handle : GcRootIndex) → t'.pushes ≡ t.pushes ++ next_push t ∷ [] → handle ≡ handle_of new (length t.scoped) t.drops → NamesSerial new t' handle (length t.pushes)
 pushed_names new t t' handle pushes is = record {
   push = next_push t;
   pushed = ap (λ (ps : List Push). slice_get ps (length t.pushes)) pushes ∙ slice_get-push_new t.pushes (next_push t);
   is = is;
 }
 
-set_stands : (new : StoreView ℕ) (t' : Table ℕ) (slots slots' : List (Option RawValue)) (registers : ℕ → Option Held) (d : ℕ) (value : RawValue) (held : Held) → Stands new t' (Some value) (Some held) → register_at slots' d ≡ Some value → ((k : ℕ) → k ≢ d → register_at slots' k ≡ register_at slots k) → ((k : ℕ) → Stands new t' (register_at slots k) (registers k)) → (k : ℕ) → Stands new t' (register_at slots' k) (cond (k == d) (Some held) (registers k))
+set_stands : (new : StoreView ℕ) (t' : Table ℕ) (slots slots' : List (Option RawValue)) (registers : ℕ → Option Held) (d : ℕ) (value : RawValue) (held : Held) → RegisterStands new t' (Some value) (Some held) → register_at slots' d ≡ Some value → ((k : ℕ) → k ≢ d → register_at slots' k ≡ register_at slots k) → ((k : ℕ) → RegisterStands new t' (register_at slots k) (registers k)) → (k : ℕ) → RegisterStands new t' (register_at slots' k) (cond (k == d) (Some held) (registers k))
 set_stands new t' slots slots' registers d value held stands set others stand k =
-    elim (k == d) as (λ b. (k == d) ≡ b → Stands new t' (register_at slots' k) (cond b (Some held) (registers k))) [
+    elim (k == d) as (λ b. (k == d) ≡ b → RegisterStands new t' (register_at slots' k) (cond b (Some held) (registers k))) [
       | true ↦ λ e.
           let is : k ≡ d = grind (arith, nat_tests, e) in
-          subst (λ (o : Option RawValue). Stands new t' o (Some held)) (sym (ap (register_at slots') is ∙ set)) stands
+          subst (λ (o : Option RawValue). RegisterStands new t' o (Some held)) (sym (ap (register_at slots') is ∙ set)) stands
       | false ↦ λ e.
           let is_not : k ≢ d = λ is. grind (arith, nat_tests, e, is) in
-          subst (λ (o : Option RawValue). Stands new t' o (registers k)) (sym (others k is_not)) (stand k)
+          subst (λ (o : Option RawValue). RegisterStands new t' o (registers k)) (sym (others k is_not)) (stand k)
     ] refl
 
 -- a register was set to what stands in the store after
-pub holds_set : (layouts : Layouts) (old new : StoreView ℕ) (runner runner' : RunnerView) (s : State) (t' : Table ℕ) (a : Account) (d : ℕ) (value : RawValue) (held : Held) → IsSameStore old new → Keeps s.table.pushes t'.pushes → HoldsState layouts old runner s → HoldsAccount layouts new t' a → Stands new t' (Some value) (Some held) → register_at runner'.registers d ≡ Some value → ((k : ℕ) → k ≢ d → register_at runner'.registers k ≡ register_at runner.registers k) → runner'.rest ≡ runner.rest → HoldsState layouts new runner' (set_register d held (with_heap t' a s))
+pub holds_set : (layouts : Layouts) (old new : StoreView ℕ) (runner runner' : RunnerView) (s : State) (t' : Table ℕ) (a : Account) (d : ℕ) (value : RawValue) (held : Held) → IsSameStore old new → Keeps s.table.pushes t'.pushes → HoldsState layouts old runner s → HoldsAccount layouts new t' a → RegisterStands new t' (Some value) (Some held) → register_at runner'.registers d ≡ Some value → ((k : ℕ) → k ≢ d → register_at runner'.registers k ≡ register_at runner.registers k) → runner'.rest ≡ runner.rest → HoldsState layouts new runner' (set_register d held (with_heap t' a s))
 holds_set layouts old new runner runner' s t' a d value held same keeps holds table stands set others rest_is =
     let mid = holds_kept layouts old new runner runner s t' a same keeps (λ k. refl) refl holds table in
     record {

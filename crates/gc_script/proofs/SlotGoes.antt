@@ -7,7 +7,7 @@ use Rattle.gc_types.specs.declared.kind.Layouts.{Layouts}
 use Rattle.gc_owner.specs.declared.entry.GcClass.{GcClass}
 use Rattle.gc_model.specs.Values.{Reference, Value}
 use Rattle.gc_model.specs.Values as values
-use Rattle.gc_model.specs.Table.{Table, Slot, Push, empty_slot}
+use Rattle.gc_model.specs.Table.{Table, Slot, Push, null_slot}
 use Rattle.gc_model.specs.Live.{roots_full}
 use Rattle.gc_model.specs.Reads.{makes_root, after_read}
 use Rattle.gc_model.specs.Stores.{StoreView}
@@ -29,11 +29,11 @@ use Rattle.gc_store.proofs.HandleWords.{named_of_store}
 use Rattle.gc_script.specs.Slots.{RunnerView, register_at}
 use Rattle.gc_script.specs.State.{State, HoldsState, with_table, visible, over}
 use Rattle.gc_script.specs.Given.{Given, is, given_register, given_value, is_reference}
-use Rattle.gc_script.specs.Shapes.{Shape, plain, reads, slot_of}
+use Rattle.gc_script.specs.Shapes.{CommandShape, plain, reads, slot_of}
 use Rattle.gc_script.specs.Steps.{first_failing, setting_tests, getting_tests}
 use Rattle.gc_script.specs.Run.{GoesBy}
 use Rattle.gc_script.specs.Named.{register_with}
-use Rattle.gc_script.specs.Values.{raw_slot, IsFound, ShowsRead, registered, reference_tests, FoundReference}
+use Rattle.gc_script.specs.Values.{raw_slot, IsFoundLive, ShowsRead, registered, reference_tests, FoundReference}
 use Rattle.gc_script.proofs.ReadLemmas.{read_goes}
 use Rattle.gc_script.proofs.StandLemmas.{holds_kept, holds_same, holds_table}
 use Rattle.gc_script.proofs.TestLemmas.{passes, stops, answers_by, refuses_by}
@@ -56,7 +56,7 @@ reference_stands : (s : StoreView ℕ) (t : Table ℕ) (c : GcClass) (h : Option
 reference_stands s t c None v stands = (values.null, (stands, refl))
 reference_stands s t c (Some h) v stands = (stands.root, (stands.is, stands.named))
 
-module _ (store : StoreView ℕ) (s : State) (r : ℕ) (value : RawValue) (found : IsFound store s.table value (given_register s r) true) where
+module _ (store : StoreView ℕ) (s : State) (r : ℕ) (value : RawValue) (found : IsFoundLive store s.table value (given_register s r) true) where
   -- the register gives a reference
   pub gives_reference : (c : GcClass) (h : Option GcRootIndex) → raw_slot value ≡ Some (c, h) → FoundReference store s r c h
   gives_reference c h slot_is =
@@ -91,7 +91,7 @@ pub record SetsOnly (set : Slot → Table ℕ → Table ℕ) : Type 0 where
 
 module _ (layouts : Layouts) (store : StoreView ℕ) (runner : RunnerView) (s : State) (holds : HoldsState layouts store runner s) (there : Slot) where
   module _ (r : ℕ) (set : Slot → Table ℕ → Table ℕ) (only : SetsOnly set) where
-    abbrev pub setting : Shape
+    abbrev pub setting : CommandShape
     setting = plain (λ (x : State). (reply.Done, with_table (set (slot_of (given_value (given_register x r))) x.table) x))
 
     abbrev set_tests : List (Bool × Refusal)
@@ -118,8 +118,8 @@ module _ (layouts : Layouts) (store : StoreView ℕ) (runner : RunnerView) (s : 
         }
 
   module _ (d : ℕ) (slot_in : State → Option Slot) (slot_is : slot_in (visible s) ≡ Some there) (new : StoreView ℕ) (runner' : RunnerView) (same : IsSameStore store new) (rest_is : runner'.rest ≡ runner.rest) where
-    abbrev pub getting : Shape
-    getting = plain (λ (x : State). reads (slot_value (unwrap_or (slot_in x) empty_slot)) (Some d) x)
+    abbrev pub getting : CommandShape
+    getting = plain (λ (x : State). reads (slot_value (unwrap_or (slot_in x) null_slot)) (Some d) x)
 
     abbrev get_tests : List (Bool × Refusal)
     get_tests = getting_tests (Some there) (roots_full s.table)
@@ -133,7 +133,7 @@ module _ (layouts : Layouts) (store : StoreView ℕ) (runner : RunnerView) (s : 
     -- the slot was read
     pub slot_read : (value : RawValue) (answer : Reply) → ((k : ℕ) → register_at runner'.registers k ≡ register_with (Some d) (registered value) runner.registers k) → (makes_root (slot_value there) ≡ true → roots_full s.table ≡ false) → IsReadAs new s.table (slot_value there) value → HoldsAccount layouts new (after_read (slot_value there) s.table) s.account → ShowsRead layouts new value answer → GoesBy layouts s getting get_tests (Ok answer) new runner'
     slot_read value answer slots_are may is_read table shows =
-        read_goes layouts store new runner runner' s same holds rest_is (λ (x : State). slot_value (unwrap_or (slot_in x) empty_slot)) (Some d) (slot_value there)
-        (ap (λ (o : Option Slot). slot_value (unwrap_or o empty_slot)) slot_is) get_tests value answer
+        read_goes layouts store new runner runner' s same holds rest_is (λ (x : State). slot_value (unwrap_or (slot_in x) null_slot)) (Some d) (slot_value there)
+        (ap (λ (o : Option Slot). slot_value (unwrap_or o null_slot)) slot_is) get_tests value answer
         (passes (makes_root (slot_value there) && roots_full s.table) refusal.RootsFull [] (not_both (makes_root (slot_value there)) (roots_full s.table) may))
         slots_are is_read table shows

@@ -10,12 +10,12 @@ use Rattle.gc_values.specs.declared.root.GcRootIndex.{GcRootIndex}
 use Rattle.gc_values.specs.declared.root.RootSlot.TheVariants as slot
 use Rattle.gc_values.specs.declared.root.RawValue.{RawValue}
 use Rattle.gc_values.specs.declared.root.RawValue.TheVariants as raw
-use Rattle.gc_store.specs.Roots.{Names}
+use Rattle.gc_store.specs.Roots.{NamesSerial}
 use Rattle.gc_store.specs.Stores.{IsSameStore}
 use Rattle.gc_values.specs.Words.{owned_id}
 use Rattle.gc_policy.specs.Accounts.{Account, HoldsAccount}
 use Rattle.gc_script.specs.Slots.{register_at, RunnerRest, RunnerView, new_runner}
-use Rattle.gc_script.specs.State.{State, Held, number, reference, HeldOwned, owned, unrooted, Stands, StandsOwned, HoldsState, begin, with_heap}
+use Rattle.gc_script.specs.State.{State, Held, number, reference, HeldOwned, owned, unrooted, RegisterStands, StandsOwned, HoldsState, begin, with_heap}
 
 -- a store holds the table, whatever its account is
 pub holds_table : {D : Type 0} {layouts : Layouts} {s : StoreView D} {t : Table D} {a : Account} → HoldsAccount layouts s t a → HoldsTable layouts s t
@@ -48,7 +48,7 @@ owned_in engine store_number n = record {
 }
 
 -- a handle names the same root in the store after
-pub names_kept : (s new : StoreView ℕ) (t t' : Table ℕ) (handle : GcRootIndex) (serial : ℕ) → IsSameStore s new → Keeps t.pushes t'.pushes → Names s t handle serial → Names new t' handle serial
+pub names_kept : (s new : StoreView ℕ) (t t' : Table ℕ) (handle : GcRootIndex) (serial : ℕ) → IsSameStore s new → Keeps t.pushes t'.pushes → NamesSerial s t handle serial → NamesSerial new t' handle serial
 names_kept s new t t' handle serial same keeps names = record {
   push = names.push;
   pushed = keeps serial names.push names.pushed;
@@ -66,7 +66,7 @@ pub same_twice : (a b c : StoreView ℕ) → IsSameStore a b → IsSameStore b c
 same_twice a b c one two = record { engine = two.engine ∙ one.engine; number = two.number ∙ one.number; counter = two.counter ∙ one.counter }
 
 -- what a register holds stands in the store after
-pub stands_kept : (s new : StoreView ℕ) (t t' : Table ℕ) (found : Option RawValue) (held : Option Held) → IsSameStore s new → Keeps t.pushes t'.pushes → Stands s t found held → Stands new t' found held
+pub stands_kept : (s new : StoreView ℕ) (t t' : Table ℕ) (found : Option RawValue) (held : Option Held) → IsSameStore s new → Keeps t.pushes t'.pushes → RegisterStands s t found held → RegisterStands new t' found held
 stands_kept s new t t' None None same keeps stands = tt
 stands_kept s new t t' None (Some (number v)) same keeps stands = absurd stands
 stands_kept s new t t' None (Some (reference c None)) same keeps stands = absurd stands
@@ -124,7 +124,7 @@ owned_kept s new runner runner' o held same rest_is stands =
 pub holds_kept : (layouts : Layouts) (s new : StoreView ℕ) (runner runner' : RunnerView) (state : State) (t' : Table ℕ) (a : Account) → IsSameStore s new → Keeps state.table.pushes t'.pushes → ((d : ℕ) → register_at runner'.registers d ≡ register_at runner.registers d) → runner'.rest ≡ runner.rest → HoldsState layouts s runner state → HoldsAccount layouts new t' a → HoldsState layouts new runner' (with_heap t' a state)
 holds_kept layouts s new runner runner' state t' a same keeps slots_are rest_is holds table = record {
   table = table;
-  registers = λ d. subst (λ (o : Option RawValue). Stands new t' o (state.registers d)) (sym (slots_are d)) (stands_kept s new state.table t' (register_at runner.registers d) (state.registers d) same keeps (holds.registers d));
+  registers = λ d. subst (λ (o : Option RawValue). RegisterStands new t' o (state.registers d)) (sym (slots_are d)) (stands_kept s new state.table t' (register_at runner.registers d) (state.registers d) same keeps (holds.registers d));
   owned = λ o. owned_kept s new runner runner' o (state.owned_registers o) same rest_is (holds.owned o);
   marks = ap (λ (r : RunnerRest). r.marks) rest_is ∙ holds.marks;
 }
@@ -137,12 +137,12 @@ holds_same layouts s new runner runner' state same slots_are rest_is holds table
 pub begins : (layouts : Layouts) (store : StoreView ℕ) (runner : RunnerView) (t : Table ℕ) (a : Account) → HoldsAccount layouts store t a → runner ≡ new_runner → HoldsState layouts store runner (begin t a)
 begins layouts store runner t a holds none = record {
   table = holds;
-  registers = λ d. subst (λ (r : RunnerView). Stands store t (register_at r.registers d) None) (sym none) tt;
+  registers = λ d. subst (λ (r : RunnerView). RegisterStands store t (register_at r.registers d) None) (sym none) tt;
   owned = λ o. subst (λ (r : RunnerView). StandsOwned store (register_at r.rest.owned o) None) (sym none) tt;
   marks = ap (λ (r : RunnerView). r.rest.marks) none;
 }
 
 -- what a register of the runner holds stands for that of the state
-pub register_held : (layouts : Layouts) (store : StoreView ℕ) (runner view : RunnerView) (s : State) (r : ℕ) (value : Option RawValue) → view ≡ runner → value ≡ register_at view.registers r → HoldsState layouts store runner s → Stands store s.table value (s.registers r)
+pub register_held : (layouts : Layouts) (store : StoreView ℕ) (runner view : RunnerView) (s : State) (r : ℕ) (value : Option RawValue) → view ≡ runner → value ≡ register_at view.registers r → HoldsState layouts store runner s → RegisterStands store s.table value (s.registers r)
 register_held layouts store runner view s r value same is holds =
-    subst (λ (o : Option RawValue). Stands store s.table o (s.registers r)) (sym (is ∙ ap (λ (x : RunnerView). register_at x.registers r) same)) (holds.registers r)
+    subst (λ (o : Option RawValue). RegisterStands store s.table o (s.registers r)) (sym (is ∙ ap (λ (x : RunnerView). register_at x.registers r) same)) (holds.registers r)

@@ -10,10 +10,10 @@ use Rattle.gc_commands.specs.declared.reply.Reply.TheVariants as reply
 use Rattle.gc_commands.specs.declared.reply.Refusal.{Refusal}
 use Rattle.gc_script.specs.Slots.{RunnerView}
 use Rattle.gc_script.specs.State.{State, HoldsState}
-use Rattle.gc_script.specs.Shapes.{Shape, shape}
-use Rattle.gc_script.specs.Steps.{first_failing, tests, Answers}
+use Rattle.gc_script.specs.Shapes.{CommandShape, shape}
+use Rattle.gc_script.specs.Steps.{first_failing, tests, AnswersShape}
 use Rattle.gc_script.specs.Policy.{FollowsTested}
-use Rattle.gc_script.specs.Run.{Goes, GoesBy}
+use Rattle.gc_script.specs.Run.{GoesUnasked, GoesBy}
 use Rattle.gc_script.specs.declared.runner.RunError.{RunError}
 
 -- a test that is false is passed over
@@ -37,15 +37,15 @@ stops_all ((true, w) ∷ ts) us why e = e
 stops_all ((false, w) ∷ ts) us why e = stops_all ts us why e
 
 -- what a command answers, by what its tests found
-pub answers_by : (layouts : Layouts) (limit : Option ℕ) (s : State) (sh : Shape) (found known : Option Refusal) (answer : Reply) (s' : State) → found ≡ known → Answers layouts limit s sh known answer s' → Answers layouts limit s sh found answer s'
-answers_by layouts limit s sh found known answer s' e answers = subst (λ (o : Option Refusal). Answers layouts limit s sh o answer s') (sym e) answers
+pub answers_by : (layouts : Layouts) (limit : Option ℕ) (s : State) (sh : CommandShape) (found known : Option Refusal) (answer : Reply) (s' : State) → found ≡ known → AnswersShape layouts limit s sh known answer s' → AnswersShape layouts limit s sh found answer s'
+answers_by layouts limit s sh found known answer s' e answers = subst (λ (o : Option Refusal). AnswersShape layouts limit s sh o answer s') (sym e) answers
 
 -- how a command follows the policy, by what its tests found
-pub follows_by : (layouts : Layouts) (counter : Option ℕ) (s : State) (limits : Limits) (sh : Shape) (found known : Option Refusal) (answer : Reply) (s' : State) (limits' : Limits) → found ≡ known → FollowsTested layouts counter s limits sh known answer s' limits' → FollowsTested layouts counter s limits sh found answer s' limits'
+pub follows_by : (layouts : Layouts) (counter : Option ℕ) (s : State) (limits : Limits) (sh : CommandShape) (found known : Option Refusal) (answer : Reply) (s' : State) (limits' : Limits) → found ≡ known → FollowsTested layouts counter s limits sh known answer s' limits' → FollowsTested layouts counter s limits sh found answer s' limits'
 follows_by layouts counter s limits sh found known answer s' limits' e follows = subst (λ (o : Option Refusal). FollowsTested layouts counter s limits sh o answer s' limits') (sym e) follows
 
 -- the same tests, once some passed
-pub goes_by : (layouts : Layouts) (s : State) (sh : Shape) (left left' : List (Bool × Refusal)) (result : Result Reply RunError) (new : StoreView ℕ) (runner : RunnerView) → first_failing left' ≡ first_failing left → GoesBy layouts s sh left result new runner → GoesBy layouts s sh left' result new runner
+pub goes_by : (layouts : Layouts) (s : State) (sh : CommandShape) (left left' : List (Bool × Refusal)) (result : Result Reply RunError) (new : StoreView ℕ) (runner : RunnerView) → first_failing left' ≡ first_failing left → GoesBy layouts s sh left result new runner → GoesBy layouts s sh left' result new runner
 goes_by layouts s sh left left' (Ok answer) new runner e goes = record {
   after = goes.after;
   answers = answers_by layouts None s sh (first_failing left') (first_failing left) answer goes.after e goes.answers;
@@ -55,7 +55,7 @@ goes_by layouts s sh left left' (Ok answer) new runner e goes = record {
 goes_by layouts s sh left left' (Err why) new runner e goes = goes
 
 -- a command that is refused changes nothing
-pub refuses_by : (layouts : Layouts) (store : StoreView ℕ) (runner : RunnerView) (s : State) (sh : Shape) (left : List (Bool × Refusal)) (why : Refusal) → HoldsState layouts store runner s → first_failing left ≡ Some why → Goes layouts s sh left (reply.Refused why) store runner
+pub refuses_by : (layouts : Layouts) (store : StoreView ℕ) (runner : RunnerView) (s : State) (sh : CommandShape) (left : List (Bool × Refusal)) (why : Refusal) → HoldsState layouts store runner s → first_failing left ≡ Some why → GoesUnasked layouts s sh left (reply.Refused why) store runner
 refuses_by layouts store runner s sh left why holds e = record {
   after = s;
   answers = answers_by layouts None s sh (first_failing left) (Some why) (reply.Refused why) s e (refl, refl);
@@ -63,5 +63,5 @@ refuses_by layouts store runner s sh left why holds e = record {
   holds = holds;
 }
 
-pub refuses : (layouts : Layouts) (store : StoreView ℕ) (runner : RunnerView) (s : State) (c : Command) (why : Refusal) → HoldsState layouts store runner s → first_failing (tests layouts s c) ≡ Some why → Goes layouts s (shape c) (tests layouts s c) (reply.Refused why) store runner
+pub refuses : (layouts : Layouts) (store : StoreView ℕ) (runner : RunnerView) (s : State) (c : Command) (why : Refusal) → HoldsState layouts store runner s → first_failing (tests layouts s c) ≡ Some why → GoesUnasked layouts s (shape c) (tests layouts s c) (reply.Refused why) store runner
 refuses layouts store runner s c why holds e = refuses_by layouts store runner s (shape c) (tests layouts s c) why holds e

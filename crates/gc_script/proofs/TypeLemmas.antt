@@ -21,13 +21,13 @@ use Rattle.gc_script.specs.Slots.{RunnerView}
 use Rattle.gc_script.specs.State.{State, HoldsState, with_table}
 use Rattle.gc_script.specs.Shapes.{declaring}
 use Rattle.gc_script.specs.Steps.{first_failing, declared, bad}
-use Rattle.gc_script.specs.Run.{Goes}
+use Rattle.gc_script.specs.Run.{GoesUnasked}
 use Rattle.gc_script.proofs.StandLemmas.{holds_kept, holds_same}
 use Rattle.gc_script.proofs.TestLemmas.{answers_by}
 
 module _ (layouts : Layouts) (old new : StoreView ℕ) (runner : RunnerView) (s : State) (holds : HoldsState layouts old runner s) (d : List Declaration → Option Declaration) (left : List (Bool × Refusal)) (pass : first_failing left ≡ None) where
   -- the words spell no type
-  pub nothing_spelled : d s.table.types ≡ None → Goes layouts s (declaring d) left (reply.Refused refusal.BadType) old runner
+  pub nothing_spelled : d s.table.types ≡ None → GoesUnasked layouts s (declaring d) left (reply.Refused refusal.BadType) old runner
   nothing_spelled none = record {
     after = s;
     answers = answers_by layouts None s (declaring d) (first_failing left) None (reply.Refused refusal.BadType) s pass (bad (λ other is. absurd (none-some other (sym none ∙ is))) refl refl);
@@ -37,7 +37,7 @@ module _ (layouts : Layouts) (old new : StoreView ℕ) (runner : RunnerView) (s 
 
   module _ (same : IsSameStore old new) (ty : Declaration) (is : d s.table.types ≡ Some ty) where
     -- a type was declared
-    pub was_declared : (name : TypeName) → stores.Declares layouts ty s.table s.account (Ok name) new → Goes layouts s (declaring d) left (reply.Declared name.index) new runner
+    pub was_declared : (name : TypeName) → stores.Declares layouts ty s.table s.account (Ok name) new → GoesUnasked layouts s (declaring d) left (reply.Declared name.index) new runner
     was_declared name declares = record {
       after = with_table (declare ty s.table) s;
       answers = answers_by layouts None s (declaring d) (first_failing left) None (reply.Declared name.index) _ pass (declared ty is declares.0 (ap (λ (n : TypeName). reply.Declared n.index) declares.1.0) refl);
@@ -46,7 +46,7 @@ module _ (layouts : Layouts) (old new : StoreView ℕ) (runner : RunnerView) (s 
     }
 
     -- it may not be
-    pub not_declared : stores.Declares layouts ty s.table s.account (Err type_fault.BadType) new → Goes layouts s (declaring d) left (reply.Refused refusal.BadType) new runner
+    pub not_declared : stores.Declares layouts ty s.table s.account (Err type_fault.BadType) new → GoesUnasked layouts s (declaring d) left (reply.Refused refusal.BadType) new runner
     not_declared declares = record {
       after = s;
       answers = answers_by layouts None s (declaring d) (first_failing left) None (reply.Refused refusal.BadType) s pass

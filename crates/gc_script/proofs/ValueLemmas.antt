@@ -16,18 +16,18 @@ use Rattle.gc_values.specs.declared.root.RawValue.TheVariants as raw
 use Rattle.gc_values.specs.declared.root.RootFault.{RootFault}
 use Rattle.gc_values.specs.declared.root.RootFault.TheVariants as fault
 use Rattle.gc_values.specs.declared.root.RootedObject.{RootedObject}
-use Rattle.gc_store.specs.Roots.{Names, NamesReference, NamesNothing, TellsReference, is_of_store, handle_of}
+use Rattle.gc_store.specs.Roots.{NamesSerial, NamesReference, NamesNothing, TellsReference, is_of_store, handle_of}
 use Rattle.gc_store.specs.Values.{RawStands}
 use Rattle.gc_values.specs.RawValues.{raw_handle}
 use Rattle.gc_values.specs.declared.root.RootSlot.TheVariants as root_slot
 use Rattle.gc_values.specs.Words.{owned_id}
 use Rattle.gc_store.proofs.HandleWords.{names-store, named_alone}
-use Rattle.gc_script.specs.State.{Held, number, reference, Stands}
+use Rattle.gc_script.specs.State.{Held, number, reference, RegisterStands}
 use Rattle.gc_script.specs.Given.{gone, is, given_held, given_root}
-use Rattle.gc_script.specs.Values.{raw_slot, IsFound}
+use Rattle.gc_script.specs.Values.{raw_slot, IsFoundLive}
 
 -- what is no handle stands for a value
-pub found_plain : (s : StoreView ℕ) (t : Table ℕ) (r : RawValue) (held : Option Held) → raw_handle r ≡ None → Stands s t (Some r) held → IsFound s t r (given_held t held) true
+pub found_plain : (s : StoreView ℕ) (t : Table ℕ) (r : RawValue) (held : Option Held) → raw_handle r ≡ None → RegisterStands s t (Some r) held → IsFoundLive s t r (given_held t held) true
 found_plain s t (raw.I32 n) None plain stands = absurd stands
 found_plain s t (raw.I32 n) (Some (number v)) plain stands = (v, (refl, stands))
 found_plain s t (raw.I32 n) (Some (reference c None)) plain stands = absurd stands
@@ -63,7 +63,7 @@ found_plain s t (raw.Ref class None) (Some (reference c (Some k))) plain stands 
 found_plain s t (raw.Ref class (Some handle)) held plain stands = absurd (none-some handle (sym plain))
 
 -- a handle names one reference
-pub names_one : (layouts : Layouts) (s : StoreView ℕ) (t : Table ℕ) → HoldsTable layouts s t → (handle : GcRootIndex) (x y : ℕ) → Names s t handle x → Names s t handle y → x ≡ y
+pub names_one : (layouts : Layouts) (s : StoreView ℕ) (t : Table ℕ) → HoldsTable layouts s t → (handle : GcRootIndex) (x y : ℕ) → NamesSerial s t handle x → NamesSerial s t handle y → x ≡ y
 names_one layouts s t holds handle x y a b =
     let same : handle_of s b.push.index b.push.generation ≡ handle_of s a.push.index a.push.generation = sym b.is ∙ a.is in
     let index : b.push.index ≡ a.push.index = grind (arith, ap (λ (h : GcRootIndex). h.slot) same) in
@@ -74,7 +74,7 @@ same_root layouts s t holds handle r q a b =
     named_alone layouts s t holds.0 holds.1 handle r q a b
 
 -- one that names a push whose root is gone names nothing
-pub names_gone : (layouts : Layouts) (s : StoreView ℕ) (t : Table ℕ) → HoldsTable layouts s t → (handle : GcRootIndex) (serial : ℕ) → Names s t handle serial → rooted t serial ≡ None → NamesNothing s t handle
+pub names_gone : (layouts : Layouts) (s : StoreView ℕ) (t : Table ℕ) → HoldsTable layouts s t → (handle : GcRootIndex) (serial : ℕ) → NamesSerial s t handle serial → rooted t serial ≡ None → NamesNothing s t handle
 names_gone layouts s t holds handle serial names is_gone r (inl named) =
     none-some r (sym is_gone ∙ ap (rooted t) (names_one layouts s t holds handle serial named.serial names named.names) ∙ named.live)
 names_gone layouts s t holds handle serial names is_gone r (inr named) =
@@ -84,20 +84,20 @@ names_gone layouts s t holds handle serial names is_gone r (inr named) =
 module _ (layouts : Layouts) (s : StoreView ℕ) (t : Table ℕ) (holds : HoldsTable layouts s t) (handle : GcRootIndex) (answer : Result RootedObject RootFault)
     (live : (r : Reference) → NamesReference s t handle r → TellsReference t r answer) (nothing : is_of_store s handle ≡ true → NamesNothing s t handle → answer ≡ Err fault.Unrooted) where
   -- a root is gone, or it stands for what it names
-  found_root : (class class' : GcClass) (serial : ℕ) (o : Option Reference) → class ≡ class' → Names s t handle serial → rooted t serial ≡ o → IsFound s t (raw.Ref class (Some handle)) (given_root class' o) (is_ok answer)
+  found_root : (class class' : GcClass) (serial : ℕ) (o : Option Reference) → class ≡ class' → NamesSerial s t handle serial → rooted t serial ≡ o → IsFoundLive s t (raw.Ref class (Some handle)) (given_root class' o) (is_ok answer)
   found_root class class' serial None same names at =
-      subst (λ (x : Result RootedObject RootFault). IsFound s t (raw.Ref class (Some handle)) gone (is_ok x)) (sym (nothing (names-store s t handle serial names) (names_gone layouts s t holds handle serial names at))) refl
+      subst (λ (x : Result RootedObject RootFault). IsFoundLive s t (raw.Ref class (Some handle)) gone (is_ok x)) (sym (nothing (names-store s t handle serial names) (names_gone layouts s t holds handle serial names at))) refl
   found_root class class' serial (Some r) same names at = by answer (live r named)
     where
       named : NamesReference s t handle r
       named = inl (record { serial = serial; names = names; live = at })
 
-      by : (x : Result RootedObject RootFault) → TellsReference t r x → IsFound s t (raw.Ref class (Some handle)) (given_root class' (Some r)) (is_ok x)
+      by : (x : Result RootedObject RootFault) → TellsReference t r x → IsFoundLive s t (raw.Ref class (Some handle)) (given_root class' (Some r)) (is_ok x)
       by (Ok object) tells = (values.reference class r, (ap (λ (y : GcClass). is (values.reference y r)) (sym same), record { root = r; named = named; is = refl }))
       by (Err e) tells = absurd tells
 
   -- so of a handle, by what the store answers
-  pub found_handle : (r : RawValue) (held : Option Held) → raw_handle r ≡ Some handle → Stands s t (Some r) held → IsFound s t r (given_held t held) (is_ok answer)
+  pub found_handle : (r : RawValue) (held : Option Held) → raw_handle r ≡ Some handle → RegisterStands s t (Some r) held → IsFoundLive s t r (given_held t held) (is_ok answer)
   found_handle (raw.I32 n) held is_handle stands = absurd (none-some handle is_handle)
   found_handle (raw.I64 n) held is_handle stands = absurd (none-some handle is_handle)
   found_handle (raw.F32 n) held is_handle stands = absurd (none-some handle is_handle)
@@ -111,8 +111,8 @@ module _ (layouts : Layouts) (s : StoreView ℕ) (t : Table ℕ) (holds : HoldsT
   found_handle (raw.Ref class (Some h)) (Some (reference c None)) is_handle stands = absurd stands
   found_handle (raw.Ref class (Some h)) (Some (reference c (Some serial))) is_handle stands =
       let same : h ≡ handle = grind (arith, is_handle) in
-      subst (λ (x : GcRootIndex). IsFound s t (raw.Ref class (Some x)) (given_root c (rooted t serial)) (is_ok answer)) (sym same)
-      (found_root class c serial (rooted t serial) stands.0 (subst (λ (x : GcRootIndex). Names s t x serial) same stands.1) refl)
+      subst (λ (x : GcRootIndex). IsFoundLive s t (raw.Ref class (Some x)) (given_root c (rooted t serial)) (is_ok answer)) (sym same)
+      (found_root class c serial (rooted t serial) stands.0 (subst (λ (x : GcRootIndex). NamesSerial s t x serial) same stands.1) refl)
 
 -- a value that is a reference stands as that
 pub slot_stands : (s : StoreView ℕ) (t : Table ℕ) (r : RawValue) (v : Value) (c : GcClass) (h : Option GcRootIndex) → raw_slot r ≡ Some (c, h) → RawStands s t r v → RawStands s t (raw.Ref c h) v

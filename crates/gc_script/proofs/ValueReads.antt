@@ -26,10 +26,10 @@ use Rattle.gc_script.specs.declared.objects.Wanted.{Wanted}
 use Rattle.gc_script.specs.Slots.{RunnerView, register_at}
 use Rattle.gc_script.specs.State.{State, HoldsState}
 use Rattle.gc_script.specs.Given.{given_register, is_unset, target, target_values}
-use Rattle.gc_script.specs.Shapes.{Shape, plain, reads_value, value_in}
+use Rattle.gc_script.specs.Shapes.{CommandShape, plain, reads_value, value_in}
 use Rattle.gc_script.specs.Steps.{first_failing, target_tests, bound_test, reading_tests, reads_root}
 use Rattle.gc_script.specs.Run.{GoesBy}
-use Rattle.gc_script.specs.Named.{wants, IsNamed, NamesObject, FoundObject, register_with}
+use Rattle.gc_script.specs.Named.{wants, IsNamedSomewhere, DescribesObject, FoundObject, register_with}
 use Rattle.gc_script.specs.Values.{ShowsRead, registered}
 use Rattle.gc_script.proofs.StandLemmas.{holds_same}
 use Rattle.gc_script.specs.Wants.{IsUnrefused, ReadTakes}
@@ -48,13 +48,13 @@ not_both true b other = other refl
 not_both false b other = refl
 
 -- an object has a value at each index below its count
-abbrev pub has_value : (store : StoreView ℕ) (t : _) (found : NamedObject) (names : NamesObject store t found) (i : ℕ) → i < found.count → (v : Value) × HasValue store t found.root i v
+abbrev pub has_value : (store : StoreView ℕ) (t : _) (found : NamedObject) (names : DescribesObject store t found) (i : ℕ) → i < found.count → (v : Value) × HasValue store t found.root i v
 has_value store t found names i below =
     let value = value_below (object_values names.object) i (omega (arith, below, names.counted)) in
     (value.0, record { position = names.position; named = names.named; object = names.object; object_is = names.object_is; value_at = value.1 })
 
 -- so it can be read
-pub can_read : (layouts : Layouts) (store : StoreView ℕ) (kind : Wanted) (found : NamedObject) (i : ℕ) → IsNamed layouts store kind found → i < found.count → CanRead ℕ layouts store found.root i
+pub can_read : (layouts : Layouts) (store : StoreView ℕ) (kind : Wanted) (found : NamedObject) (i : ℕ) → IsNamedSomewhere layouts store kind found → i < found.count → CanRead ℕ layouts store found.root i
 can_read layouts store kind found i is below =
     let value = has_value store is.table found is.names i below in
     record { table = is.table; holds = is.holds; value = value.0; has = value.1 }
@@ -75,7 +75,7 @@ past_bound store s kind r i found it above =
     grind (arith, nat_tests)
 
 module _ (layouts : Layouts) (store : StoreView ℕ) (runner : RunnerView) (s : State) (kind : Wanted) (r i : ℕ) (into : Option ℕ) (holds : HoldsState layouts store runner s) (set : is_unset (given_register s r) ≡ false) where
-  abbrev sh : Shape
+  abbrev sh : CommandShape
   sh = plain (reads_value r i into)
 
   abbrev all_tests : List (Bool × Refusal)

@@ -6,7 +6,7 @@ use Rattle.gc_types.specs.declared.kind.Layouts.{Layouts}
 use Rattle.gc_model.specs.Allocation.{too_large}
 use Rattle.gc_model.specs.Sizes.{object_size}
 use Rattle.gc_model.specs.Values.{Value, Object}
-use Rattle.gc_model.specs.Table.{Table, Slot, empty_slot}
+use Rattle.gc_model.specs.Table.{Table, Slot, null_slot}
 use Rattle.gc_model.specs.Frames.{slot_at}
 use Rattle.gc_model.specs.Globals.{global_at}
 use Rattle.gc_model.specs.Live.{roots_full}
@@ -26,10 +26,10 @@ use Rattle.gc_commands.specs.declared.command.Command.TheVariants as command
 use Rattle.gc_commands.specs.declared.reply.Refusal.{Refusal}
 use Rattle.gc_commands.specs.declared.reply.Refusal.TheVariants as refusal
 use Rattle.gc_script.specs.Slots.{RunnerView, option_join}
-use Rattle.gc_script.specs.State.{State, Held, number, reference, Stands, HoldsState}
+use Rattle.gc_script.specs.State.{State, Held, number, reference, RegisterStands, HoldsState}
 use Rattle.gc_script.specs.Steps.{tests, first_failing, heap_tests, getting_tests}
-use Rattle.gc_script.specs.Named.{LacksRoom}
-use Rattle.gc_script.specs.Wants.{IsUnrefused, IsNew, ReadTakes, TakesIn, MayWant}
+use Rattle.gc_script.specs.Named.{LacksRegister}
+use Rattle.gc_script.specs.Wants.{IsUnrefused, IsNeverSet, ReadTakes, TakesIn, MayWant}
 
 -- where nothing but tests of room is left, nothing else refuses
 pub full_only : (b : Bool) → IsUnrefused (first_failing ((b, refusal.RootsFull) ∷ []))
@@ -45,20 +45,20 @@ pub unrefused_by : (found known : Option Refusal) → found ≡ known → IsUnre
 unrefused_by found known e unrefused = subst IsUnrefused (sym e) unrefused
 
 -- a register for which the runner has no room was never set
-none_held : (store : StoreView ℕ) (t : Table ℕ) (held : Option Held) → Stands store t None held → held ≡ None
+none_held : (store : StoreView ℕ) (t : Table ℕ) (held : Option Held) → RegisterStands store t None held → held ≡ None
 none_held store t None stands = refl
 none_held store t (Some (number v)) stands = absurd stands
 none_held store t (Some (reference c None)) stands = absurd stands
 none_held store t (Some (reference c (Some serial))) stands = absurd stands
 
-pub never_set : (layouts : Layouts) (store : StoreView ℕ) (runner : RunnerView) (s : State) → HoldsState layouts store runner s → (into : Option ℕ) → LacksRoom into runner.registers → IsNew s into
+pub never_set : (layouts : Layouts) (store : StoreView ℕ) (runner : RunnerView) (s : State) → HoldsState layouts store runner s → (into : Option ℕ) → LacksRegister into runner.registers → IsNeverSet s into
 never_set layouts store runner s holds None lacks = lacks
 never_set layouts store runner s holds (Some d) lacks =
     none_held store s.table (s.registers d)
-    (subst (λ (o : Option RawValue). Stands store s.table o (s.registers d)) (ap option_join (slice_get_past runner.registers d lacks)) (holds.registers d))
+    (subst (λ (o : Option RawValue). RegisterStands store s.table o (s.registers d)) (ap option_join (slice_get_past runner.registers d lacks)) (holds.registers d))
 
-pub new_register : (layouts : Layouts) (store : StoreView ℕ) (runner view : RunnerView) (s : State) → view ≡ runner → HoldsState layouts store runner s → (into : Option ℕ) → LacksRoom into view.registers → IsNew s into
-new_register layouts store runner view s same holds into lacks = never_set layouts store runner s holds into (subst (λ (r : RunnerView). LacksRoom into r.registers) same lacks)
+pub new_register : (layouts : Layouts) (store : StoreView ℕ) (runner view : RunnerView) (s : State) → view ≡ runner → HoldsState layouts store runner s → (into : Option ℕ) → LacksRegister into view.registers → IsNeverSet s into
+new_register layouts store runner view s same holds into lacks = never_set layouts store runner s holds into (subst (λ (r : RunnerView). LacksRegister into r.registers) same lacks)
 
 -- what is left to the tests of an allocation
 pub room_may : (layouts : Layouts) (s : State) (c : Command) (o : Object ℕ) → TakesIn s c → first_failing (tests layouts s c) ≡ first_failing (heap_tests layouts s o) → MayWant layouts s c
@@ -92,8 +92,8 @@ slot_makes layouts t a slot slot_fault.RootsFull new told = told.0
 slot_makes layouts t a slot slot_fault.Memory new told = told.0
 
 module _ (layouts : Layouts) (s : State) (k d : ℕ) (there : Slot) (takes : ReadTakes s (slot_value there) (Some d)) where
-  taken_as : (slot : Option Slot) → slot ≡ Some there → ReadTakes s (slot_value (unwrap_or slot empty_slot)) (Some d)
-  taken_as slot is = subst (λ (o : Option Slot). ReadTakes s (slot_value (unwrap_or o empty_slot)) (Some d)) (sym is) takes
+  taken_as : (slot : Option Slot) → slot ≡ Some there → ReadTakes s (slot_value (unwrap_or slot null_slot)) (Some d)
+  taken_as slot is = subst (λ (o : Option Slot). ReadTakes s (slot_value (unwrap_or o null_slot)) (Some d)) (sym is) takes
 
   pub load_may : slot_at s.table k ≡ Some there → MayWant layouts s (command.Load k d)
   load_may is = record { takes = taken_as (slot_at s.table k) is; unrefused = slot_unrefused (slot_at s.table k) there (roots_full s.table) is }
@@ -108,7 +108,7 @@ pending_fault layouts t a fault.Unrooted new told = absurd told
 pending_fault layouts t a fault.RootsFull new told = λ none. none-some told.root (sym none ∙ told.is_pending)
 pending_fault layouts t a fault.Memory new told = told.0
 
-pub take_may : (layouts : Layouts) (s : State) (d : ℕ) → (¬ (s.table.pending ≡ None)) ⊎ IsNew s (Some d) → MayWant layouts s (command.Take d)
+pub take_may : (layouts : Layouts) (s : State) (d : ℕ) → (¬ (s.table.pending ≡ None)) ⊎ IsNeverSet s (Some d) → MayWant layouts s (command.Take d)
 take_may layouts s d takes = record { takes = takes; unrefused = full_only (is_some s.table.pending && roots_full s.table) }
 
 -- what commands may want whatever the state is: their tests are of room, or none

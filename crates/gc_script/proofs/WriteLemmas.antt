@@ -23,13 +23,13 @@ use Rattle.gc_script.specs.declared.objects.NamedObject.{NamedObject}
 use Rattle.gc_script.specs.declared.objects.Wanted.{Wanted}
 use Rattle.gc_script.specs.declared.objects.Wanted.TheVariants as wanted
 use Rattle.gc_script.specs.Slots.{RunnerView}
-use Rattle.gc_script.specs.State.{State, Held, number, reference, Stands, HoldsState, with_table, visible, over}
-use Rattle.gc_script.specs.Given.{Target, unset, given, given_register, given_held, given_root, given_value, is_unset, target, field_of}
+use Rattle.gc_script.specs.State.{State, Held, number, reference, RegisterStands, HoldsState, with_table, visible, over}
+use Rattle.gc_script.specs.Given.{Target, unset, given, given_register, given_held, given_root, given_value, is_unset, target, target_field}
 use Rattle.gc_script.specs.Steps.{first_failing, tests, bound_test, constant_test, value_tests, target_tests, writing_tests}
-use Rattle.gc_script.specs.Shapes.{Shape, plain, writes_value, kept_as, write_target}
-use Rattle.gc_script.specs.Run.{Goes}
-use Rattle.gc_script.specs.Named.{wants, type_at, IsNamed, FoundObject}
-use Rattle.gc_script.specs.Values.{CanStoreAs}
+use Rattle.gc_script.specs.Shapes.{CommandShape, plain, writes_value, kept_as, write_target}
+use Rattle.gc_script.specs.Run.{GoesUnasked}
+use Rattle.gc_script.specs.Named.{wants, type_at, IsNamedSomewhere, FoundObject}
+use Rattle.gc_script.specs.Values.{CanStoreRaw}
 use Rattle.gc_script.specs.Writing.{stored_tests}
 use Rattle.gc_script.proofs.StandLemmas.{holds_kept, holds_table}
 use Rattle.gc_script.proofs.TestLemmas.{passes, stops, passes_all, stops_all, answers_by}
@@ -40,7 +40,7 @@ root_set c None = refl
 root_set c (Some r) = refl
 
 -- what a value stands for is set
-pub is_set : (s : StoreView ℕ) (t : Table ℕ) (r : RawValue) (held : Option Held) → Stands s t (Some r) held → is_unset (given_held t held) ≡ false
+pub is_set : (s : StoreView ℕ) (t : Table ℕ) (r : RawValue) (held : Option Held) → RegisterStands s t (Some r) held → is_unset (given_held t held) ≡ false
 is_set s t (raw.I32 n) None stands = absurd stands
 is_set s t (raw.I64 n) None stands = absurd stands
 is_set s t (raw.F32 n) None stands = absurd stands
@@ -55,7 +55,7 @@ is_set s t r (Some (reference c None)) stands = refl
 is_set s t r (Some (reference c (Some serial))) stands = root_set c (rooted t serial)
 
 -- a value that may be stored at an index of an object may be written there
-pub can_write : (layouts : Layouts) (store : StoreView ℕ) (kind : Wanted) (found : NamedObject) (i : ℕ) (value : RawValue) → IsNamed layouts store kind found → i < found.count → (field : Option FieldType) → type_at store.types found.types i ≡ field → CanStoreAs layouts store field value → CanWrite ℕ layouts store found.root i value
+pub can_write : (layouts : Layouts) (store : StoreView ℕ) (kind : Wanted) (found : NamedObject) (i : ℕ) (value : RawValue) → IsNamedSomewhere layouts store kind found → i < found.count → (field : Option FieldType) → type_at store.types found.types i ≡ field → CanStoreRaw layouts store field value → CanWrite ℕ layouts store found.root i value
 can_write layouts store kind found i value is below None field_is can = absurd can
 can_write layouts store kind found i value is below (Some field) field_is can =
     let before = has_value store is.table found is.names i below in
@@ -71,11 +71,11 @@ can_write layouts store kind found i value is below (Some field) field_is can =
 
 module _ (layouts : Layouts) (store : StoreView ℕ) (s : State) (kind : Wanted) (r i : ℕ) (found : NamedObject) (it : FoundObject store s kind r found) where
   -- the type of the value there
-  pub field_found : field_of s.table (target s r) i ≡ type_at s.table.types found.types i
-  field_found = ap (λ (x : Option Target). field_of s.table x i) it.is_target ∙ it.names.typed i
+  pub field_found : target_field s.table (target s r) i ≡ type_at s.table.types found.types i
+  field_found = ap (λ (x : Option Target). target_field s.table x i) it.is_target ∙ it.names.typed i
 
   -- the tests of the value, by that type
-  pub stored_here : (v : Operand) → first_failing (constant_test s r i ∷ value_tests s (field_of s.table (target s r) i) v) ≡ first_failing (stored_tests s (type_at s.table.types found.types i) v)
+  pub stored_here : (v : Operand) → first_failing (constant_test s r i ∷ value_tests s (target_field s.table (target s r) i) v) ≡ first_failing (stored_tests s (type_at s.table.types found.types i) v)
   stored_here v = ap (λ (f : Option FieldType). first_failing (stored_tests s f v)) field_found
 
 -- a value was written by a command whose tests passed
@@ -96,12 +96,12 @@ module _ (layouts : Layouts) (store new : StoreView ℕ) (runner : RunnerView) (
   after_is : after ≡ over s (writes_value r i v (visible s)).1
   after_is =
       ap (λ (f : Option FieldType). with_table (write it.names.position i (kept_as f (given_value (given s v))) s.table) s) (sym (field_found layouts store s kind r i found it ∙ field_is))
-      ∙ ap (λ (x : Option Target). over s (with_table (write_target x i (kept_as (field_of s.table (target s r) i) (given_value (given s v))) (visible s).table) (visible s))) (sym it.is_target)
+      ∙ ap (λ (x : Option Target). over s (with_table (write_target x i (kept_as (target_field s.table (target s r) i) (given_value (given s v))) (visible s).table) (visible s))) (sym it.is_target)
 
-  abbrev sh : Shape
+  abbrev sh : CommandShape
   sh = plain (writes_value r i v)
 
-  pub written : (left : List (Bool × Refusal)) → first_failing left ≡ None → Goes layouts s sh left reply.Done new runner
+  pub written : (left : List (Bool × Refusal)) → first_failing left ≡ None → GoesUnasked layouts s sh left reply.Done new runner
   written left pass = record {
     after = after;
     answers = answers_by layouts None s sh (first_failing left) None reply.Done after pass (refl, after_is);
@@ -112,8 +112,8 @@ module _ (layouts : Layouts) (store new : StoreView ℕ) (runner : RunnerView) (
 -- so of a value that may be stored there
 pub wrote : (layouts : Layouts) (store new : StoreView ℕ) (runner : RunnerView) (s : State) (holds : HoldsState layouts store runner s) (kind : Wanted) (r i : ℕ) (v : Operand)
     (found : NamedObject) (it : FoundObject store s kind r found) (below : i < found.count) (same : IsSameStore store new) (value : RawValue) (stands : RawStands store s.table value (given_value (given s v)))
-    (field : Option FieldType) (field_is : type_at store.types found.types i ≡ field) (can : CanStoreAs layouts store field value) (writes : KeepsValue layouts store new s.table s.account found.root i value)
-    (left : List (Bool × Refusal)) → first_failing left ≡ None → Goes layouts s (plain (writes_value r i v)) left reply.Done new runner
+    (field : Option FieldType) (field_is : type_at store.types found.types i ≡ field) (can : CanStoreRaw layouts store field value) (writes : KeepsValue layouts store new s.table s.account found.root i value)
+    (left : List (Bool × Refusal)) → first_failing left ≡ None → GoesUnasked layouts s (plain (writes_value r i v)) left reply.Done new runner
 wrote layouts store new runner s holds kind r i v found it below same value stands None field_is can writes left pass = absurd can
 wrote layouts store new runner s holds kind r i v found it below same value stands (Some field) field_is can writes left pass =
     written layouts store new runner s holds kind r i v found it below same value stands field
@@ -133,15 +133,15 @@ module _ (s : State) (kind : Wanted) (r : ℕ) (v : Operand) (set : is_unset (gi
 -- one of these refuses the write of a field or of an element
 module _ (layouts : Layouts) (s : State) (r i : ℕ) (v : Operand) (why : Refusal) where
   pub field_refused : first_failing (writing_tests (wants wanted.Struct) s r v) ≡ Some why → first_failing (tests layouts s (command.SetField r i v)) ≡ Some why
-  field_refused e = stops_all (writing_tests (wants wanted.Struct) s r v) (bound_test s r i ∷ (constant_test s r i ∷ value_tests s (field_of s.table (target s r) i) v)) why e
+  field_refused e = stops_all (writing_tests (wants wanted.Struct) s r v) (bound_test s r i ∷ (constant_test s r i ∷ value_tests s (target_field s.table (target s r) i) v)) why e
 
   pub elem_none : first_failing (writing_tests (wants wanted.Array) s r v) ≡ Some why → first_failing (tests layouts s (command.SetElem r i v)) ≡ Some why
-  elem_none e = stops_all (writing_tests (wants wanted.Array) s r v) (constant_test s r i ∷ (value_tests s (field_of s.table (target s r) i) v ++ bound_test s r i ∷ [])) why e
+  elem_none e = stops_all (writing_tests (wants wanted.Array) s r v) (constant_test s r i ∷ (value_tests s (target_field s.table (target s r) i) v ++ bound_test s r i ∷ [])) why e
 
 -- the tests of writing a field, and of writing an element, in their orders
 module _ (layouts : Layouts) (store : StoreView ℕ) (s : State) (r i : ℕ) (v : Operand) where
   abbrev value_part : List (Bool × Refusal)
-  value_part = constant_test s r i ∷ value_tests s (field_of s.table (target s r) i) v
+  value_part = constant_test s r i ∷ value_tests s (target_field s.table (target s r) i) v
 
   module _ (pass : first_failing (writing_tests (wants wanted.Struct) s r v) ≡ None) (found : NamedObject) (it : FoundObject store s wanted.Struct r found) where
     pub field_past : found.count ≤ i → first_failing (tests layouts s (command.SetField r i v)) ≡ Some refusal.OutOfBounds
@@ -157,7 +157,7 @@ module _ (layouts : Layouts) (store : StoreView ℕ) (s : State) (r i : ℕ) (v 
 
   module _ (pass : first_failing (writing_tests (wants wanted.Array) s r v) ≡ None) (found : NamedObject) (it : FoundObject store s wanted.Array r found) where
     abbrev elem_part : List (Bool × Refusal)
-    elem_part = constant_test s r i ∷ (value_tests s (field_of s.table (target s r) i) v ++ bound_test s r i ∷ [])
+    elem_part = constant_test s r i ∷ (value_tests s (target_field s.table (target s r) i) v ++ bound_test s r i ∷ [])
 
     to_value : first_failing (tests layouts s (command.SetElem r i v)) ≡ first_failing (value_part ++ bound_test s r i ∷ [])
     to_value = passes_all (writing_tests (wants wanted.Array) s r v) elem_part pass

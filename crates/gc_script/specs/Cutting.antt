@@ -45,7 +45,7 @@ pub record EndsLine (old new : KeptLine) (piece : List ℕ) (n : ℕ) : Type 0 w
   pub goes_on : new ≡ longer old bytes
 
 -- the piece has no line feed, and the line goes on with all of it
-pub record GoesOn (old new : KeptLine) (piece : List ℕ) (n : ℕ) : Type 0 where
+pub record LineGoesOn (old new : KeptLine) (piece : List ℕ) (n : ℕ) : Type 0 where
   pub taken : n ≡ length piece
   pub plain : has_feed piece ≡ false
   pub goes_on : new ≡ longer old piece
@@ -53,7 +53,7 @@ pub record GoesOn (old new : KeptLine) (piece : List ℕ) (n : ℕ) : Type 0 whe
 -- what taking n bytes of a piece makes of the line, where it ended, and where it didn't
 abbrev pub Feeds : KeptLine → KeptLine → List ℕ → ℕ → Bool → Type 0
 Feeds old new piece n true = EndsLine old new piece n
-Feeds old new piece n false = GoesOn old new piece n
+Feeds old new piece n false = LineGoesOn old new piece n
 
 -- Pieces were fed one after the other, each until all of it was taken, and the cutter was cleared behind each line that
 -- ended: these lines ended, and that is kept at the end.

@@ -169,8 +169,8 @@ abbrev pub field_among : List Declaration → Option Target → ℕ → Option F
 field_among types None i = None
 field_among types (Some found) i = value_type types found.object i
 
-abbrev pub field_of : Table ℕ → Option Target → ℕ → Option FieldType
-field_of t found i = field_among t.types found i
+abbrev pub target_field : Table ℕ → Option Target → ℕ → Option FieldType
+target_field t found i = field_among t.types found i
 
 abbrev pub is_const : Mutability → Bool
 is_const Const = true

@@ -66,7 +66,7 @@ described types root rooted.Host = None
 described types root (rooted.Exn ty tag) = Some (with_fields types root ty)
 
 -- the root is that of an object of the table, which has so many values of these types
-pub record NamesObject (s : StoreView ℕ) (t : Table ℕ) (found : NamedObject) : Type 0 where
+pub record DescribesObject (s : StoreView ℕ) (t : Table ℕ) (found : NamedObject) : Type 0 where
   pub position : ℕ
   pub named : NamesReference s t found.root (at position)
   pub object : Object ℕ
@@ -75,15 +75,15 @@ pub record NamesObject (s : StoreView ℕ) (t : Table ℕ) (found : NamedObject)
   pub typed : (index : ℕ) → value_type t.types object index ≡ type_at t.types found.types index
 
 -- so in some table that the store holds, and the object is one of these
-pub record IsNamed (layouts : Layouts) (s : StoreView ℕ) (kind : Wanted) (found : NamedObject) : Type 0 where
+pub record IsNamedSomewhere (layouts : Layouts) (s : StoreView ℕ) (kind : Wanted) (found : NamedObject) : Type 0 where
   pub table : Table ℕ
   pub holds : HoldsTable layouts s table
-  pub names : NamesObject s table found
+  pub names : DescribesObject s table found
   pub of_kind : wants kind names.object ≡ true
 
 -- the reference is that of an object that is found, or names none of these
 abbrev pub TellsObject : StoreView ℕ → Table ℕ → Wanted → Reference → Option NamedObject → Type 0
-TellsObject s t kind r (Some found) = (names : NamesObject s t found) × ((r ≡ at names.position) × (wants kind names.object ≡ true))
+TellsObject s t kind r (Some found) = (names : DescribesObject s t found) × ((r ≡ at names.position) × (wants kind names.object ≡ true))
 TellsObject s t kind r None = names_kind (wants kind) (reference_target t (Some r)) ≡ false
 
 -- so in each table that the store holds where the root is live
@@ -93,7 +93,7 @@ IsNamedEverywhere layouts s kind found = (t : Table ℕ) (r : Reference) → Hol
 -- the object that a register names in a state, whose tests pass
 pub record FoundObject (store : StoreView ℕ) (s : State) (kind : Wanted) (r : ℕ) (found : NamedObject) : Type 0 where
   pub passes : first_failing (target_tests (wants kind) s r) ≡ None
-  pub names : NamesObject store s.table found
+  pub names : DescribesObject store s.table found
   pub is_target : target s r ≡ Some (record { position = names.position; object = names.object })
   pub of_kind : wants kind names.object ≡ true
 
@@ -103,14 +103,14 @@ FindsObject store s kind r (Ok found) = FoundObject store s kind r found
 FindsObject store s kind r (Err why) = first_failing (target_tests (wants kind) s r) ≡ Some why
 
 -- there is room for a register, where one is named
-abbrev pub HasRoom : Option ℕ → List (Option RawValue) → Type 0
-HasRoom None slots = Unit {0}
-HasRoom (Some d) slots = d < length slots
+abbrev pub HasRegister : Option ℕ → List (Option RawValue) → Type 0
+HasRegister None slots = Unit {0}
+HasRegister (Some d) slots = d < length slots
 
 -- there is none for the register that is named
-abbrev pub LacksRoom : Option ℕ → List (Option RawValue) → Type 0
-LacksRoom None slots = ⊥
-LacksRoom (Some d) slots = length slots ≤ d
+abbrev pub LacksRegister : Option ℕ → List (Option RawValue) → Type 0
+LacksRegister None slots = ⊥
+LacksRegister (Some d) slots = length slots ≤ d
 
 -- what a register holds once a value was put into one, where one is named and there is a value that it may hold
 abbrev pub register_with : Option ℕ → Option RawValue → List (Option RawValue) → ℕ → Option RawValue

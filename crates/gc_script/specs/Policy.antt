@@ -6,14 +6,14 @@ use Rattle.gc_model.specs.Table.{make}
 use Rattle.gc_model.specs.Sizes.{object_size}
 use Rattle.gc_model.specs.Allocation.{Limits}
 use Rattle.gc_policy.specs.Accounts.{with_held}
-use Rattle.gc_policy.specs.Policy.{PolicyState, policy_state, IsPlaceIn, Prepares, Prepared, Expands, Expanded}
+use Rattle.gc_policy.specs.Policy.{PolicyState, policy_state, IsPlaceIn, Prepares, Prepared, ExpandsTable, Expanded}
 use Rattle.gc_store.specs.Expansion.{MayCollectTable}
 use Rattle.gc_commands.specs.declared.command.Command.{Command}
 use Rattle.gc_commands.specs.declared.reply.Reply.{Reply}
 use Rattle.gc_commands.specs.declared.reply.Reply.TheVariants as reply
 use Rattle.gc_commands.specs.declared.reply.Refusal.{Refusal}
 use Rattle.gc_script.specs.State.{State, visible}
-use Rattle.gc_script.specs.Shapes.{Shape, plain, declaring, making, growing, collecting, showing, shape}
+use Rattle.gc_script.specs.Shapes.{CommandShape, plain, declaring, making, growing, collecting, showing, shape}
 use Rattle.gc_script.specs.Steps.{Step, tests, first_failing}
 
 -- what the policy goes by in a state
@@ -39,9 +39,9 @@ pub data AllocatesByPolicy (layouts : Layouts) (counter : Option ℕ) (o : Objec
 
 -- the heap grew, or was refused to, by the policy
 pub data GrowsByPolicy (layouts : Layouts) (bytes : ℕ) (s : State) (limits : Limits) (answer : Reply) (s' : State) (limits' : Limits) : Type 0 where
-  grown : {p : PolicyState ℕ} → answer ≡ reply.Done → Expands layouts bytes (policy_of s limits) true p → IsPolicyOf p s' limits'
+  grown : {p : PolicyState ℕ} → answer ≡ reply.Done → ExpandsTable layouts bytes (policy_of s limits) true p → IsPolicyOf p s' limits'
       → GrowsByPolicy layouts bytes s limits answer s' limits'
-  refused : {p : PolicyState ℕ} → ¬ (answer ≡ reply.Done) → Expands layouts bytes (policy_of s limits) false p → IsPolicyOf p s' limits'
+  refused : {p : PolicyState ℕ} → ¬ (answer ≡ reply.Done) → ExpandsTable layouts bytes (policy_of s limits) false p → IsPolicyOf p s' limits'
       → GrowsByPolicy layouts bytes s limits answer s' limits'
 
 -- nothing was asked of the limiter, and the account is as before
@@ -50,7 +50,7 @@ pub record AsksNothing (s : State) (limits : Limits) (s' : State) (limits' : Lim
   pub same_limits : limits' ≡ limits
 
 -- a command of that shape whose tests all passed follows the policy
-abbrev pub FollowsDoing : Layouts → Option ℕ → State → Limits → Shape → Reply → State → Limits → Type 0
+abbrev pub FollowsDoing : Layouts → Option ℕ → State → Limits → CommandShape → Reply → State → Limits → Type 0
 FollowsDoing layouts counter s limits (plain effect) answer s' limits' = AsksNothing s limits s' limits'
 FollowsDoing layouts counter s limits (declaring d) answer s' limits' = AsksNothing s limits s' limits'
 FollowsDoing layouts counter s limits (making d class object) answer s' limits' = AllocatesByPolicy layouts counter (object (visible s)) s limits answer s' limits'
@@ -58,7 +58,7 @@ FollowsDoing layouts counter s limits (growing n) answer s' limits' = GrowsByPol
 FollowsDoing layouts counter s limits (collecting told) answer s' limits' = MayCollectTable layouts (policy_of s limits) (policy_of s' limits')
 FollowsDoing layouts counter s limits showing answer s' limits' = AsksNothing s limits s' limits'
 
-abbrev pub FollowsTested : Layouts → Option ℕ → State → Limits → Shape → Option Refusal → Reply → State → Limits → Type 0
+abbrev pub FollowsTested : Layouts → Option ℕ → State → Limits → CommandShape → Option Refusal → Reply → State → Limits → Type 0
 FollowsTested layouts counter s limits sh (Some why) answer s' limits' = AsksNothing s limits s' limits'
 FollowsTested layouts counter s limits sh None answer s' limits' = FollowsDoing layouts counter s limits sh answer s' limits'
 
@@ -75,7 +75,7 @@ RunByPolicy layouts counter s limits [] (r ∷ rs) s' limits' = ⊥
 RunByPolicy layouts counter s limits (c ∷ cs) [] s' limits' = ⊥
 
 -- how far a command of that shape had come whose tests all passed
-abbrev pub CameDoing : Layouts → Option ℕ → State → Shape → PolicyState ℕ → PolicyState ℕ → Type 0
+abbrev pub CameDoing : Layouts → Option ℕ → State → CommandShape → PolicyState ℕ → PolicyState ℕ → Type 0
 CameDoing layouts counter s (plain effect) p q = q ≡ p
 CameDoing layouts counter s (declaring d) p q = q ≡ p
 CameDoing layouts counter s (making d class object) p q = Prepared layouts counter (object_size layouts s.table.types (object (visible s))) p q
@@ -84,6 +84,6 @@ CameDoing layouts counter s (collecting told) p q = q ≡ p
 CameDoing layouts counter s showing p q = q ≡ p
 
 -- How far a command had come that wanted memory; one that a test refuses had not begun.
-abbrev pub Came : Layouts → Option ℕ → State → Shape → Option Refusal → PolicyState ℕ → PolicyState ℕ → Type 0
+abbrev pub Came : Layouts → Option ℕ → State → CommandShape → Option Refusal → PolicyState ℕ → PolicyState ℕ → Type 0
 Came layouts counter s sh (Some why) p q = q ≡ p
 Came layouts counter s sh None p q = CameDoing layouts counter s sh p q

@@ -18,8 +18,8 @@ use Rattle.gc_commands.specs.declared.reply.Refusal.TheVariants as refusal
 use Rattle.gc_script.specs.Slots.{RunnerView}
 use Rattle.gc_script.specs.State.{State, HoldsState, with_heap, visible}
 use Rattle.gc_script.specs.Built.{is_built}
-use Rattle.gc_script.specs.Shapes.{Shape, making, growing, shape}
-use Rattle.gc_script.specs.Steps.{Step, Answers, tests, first_failing}
+use Rattle.gc_script.specs.Shapes.{CommandShape, making, growing, shape}
+use Rattle.gc_script.specs.Steps.{Step, AnswersShape, tests, first_failing}
 use Rattle.gc_script.specs.Policy.{policy_of, Follows, FollowsTested, Came}
 use Rattle.gc_script.specs.declared.runner.RunError.{RunError}
 
@@ -31,7 +31,7 @@ Run layouts limit s [] (r ∷ rs) s' = ⊥
 Run layouts limit s (c ∷ cs) [] s' = ⊥
 
 -- the bytes by which a command of that shape would have its heap grow
-abbrev pub shape_bytes : Layouts → State → Shape → ℕ
+abbrev pub shape_bytes : Layouts → State → CommandShape → ℕ
 shape_bytes layouts s (making d class object) = need_of layouts (object_size layouts s.table.types (object (visible s)))
 shape_bytes layouts s (growing n) = n
 shape_bytes layouts s _ = 0
@@ -45,7 +45,7 @@ SaysRefused answer = (answer ≡ reply.Refused refusal.GcHeapOutOfMemory) ⊎ (a
 
 -- A limiter refused what the reply says: the first pages, or those of a growth by so many bytes. It wasn't asked where
 -- the heap would have more than any may have.
-pub record IsAsked (answer : Reply) (after : State) (bytes : ℕ) : Type 0 where
+pub record LimiterRefuses (answer : Reply) (after : State) (bytes : ℕ) : Type 0 where
   pub says : SaysRefused answer
   pub within : after.table.made ≡ true → after.table.pages + asked after.table.pages bytes ≤ max_pages
 
@@ -55,22 +55,22 @@ pages_asked after bytes = if after.table.made then (after.table.pages, after.tab
 
 -- what a command that would have its heap grow by so many bytes leaves of the limiter: it counted what the reply says, or
 -- a refusal that was overlooked, or nothing
-pub data Counts (bytes : ℕ) (limits limits' : Limits) (answer : Reply) (after : State) : Type 0 where
-  told : IsAsked answer after bytes → Refuses limits limits' (pages_asked after bytes).0 (pages_asked after bytes).1 → Counts bytes limits limits' answer after
-  overlooked : answer ≡ reply.Done → Refuses limits limits' (pages_asked after bytes).0 (pages_asked after bytes).1 → Counts bytes limits limits' answer after
-  nothing : ¬ IsAsked answer after bytes → limits' ≡ limits → Counts bytes limits limits' answer after
+pub data LimiterCounts (bytes : ℕ) (limits limits' : Limits) (answer : Reply) (after : State) : Type 0 where
+  told : LimiterRefuses answer after bytes → Refuses limits limits' (pages_asked after bytes).0 (pages_asked after bytes).1 → LimiterCounts bytes limits limits' answer after
+  overlooked : answer ≡ reply.Done → Refuses limits limits' (pages_asked after bytes).0 (pages_asked after bytes).1 → LimiterCounts bytes limits limits' answer after
+  nothing : ¬ LimiterRefuses answer after bytes → limits' ≡ limits → LimiterCounts bytes limits limits' answer after
 
 -- A command was a step of the state that follows the policy of growth, and the limiter counted what it refused.
 pub record Ran (layouts : Layouts) (counter : Option ℕ) (limits limits' : Limits) (s : State) (c : Command) (answer : Reply) (new : StoreView ℕ) (runner : RunnerView) : Type 0 where
   pub after : State
   pub step : Step layouts limits.limit s c answer after
   pub follows : Follows layouts counter s limits c answer after limits'
-  pub counts : Counts (wanted_bytes layouts s c) limits limits' answer after
+  pub counts : LimiterCounts (wanted_bytes layouts s c) limits limits' answer after
   pub holds : HoldsState layouts new runner after
 
 -- Want of memory leaves the state, but that a collection may have run, and that the heap may have got pages which the
 -- limit grants: where a command makes an object or grows the heap alone, as the policy says, and where no test refuses it.
-pub record WantsAfter (layouts : Layouts) (counter : Option ℕ) (limits limits' : Limits) (s : State) (sh : Shape) (found : Option Refusal) (new : StoreView ℕ) (runner : RunnerView) : Type 0 where
+pub record WantsAfter (layouts : Layouts) (counter : Option ℕ) (limits limits' : Limits) (s : State) (sh : CommandShape) (found : Option Refusal) (new : StoreView ℕ) (runner : RunnerView) : Type 0 where
   pub after : PolicyState ℕ
   pub came : Came layouts counter s sh found (policy_of s limits) after
   pub pages : MayGetPages limits.limit (shape_bytes layouts s sh) s.table after.table
@@ -116,28 +116,28 @@ abbrev pub TakesMemory : Command → Type 0
 TakesMemory c = (is_built c ≡ true) × (takes_memory c ≡ true)
 
 -- What a command of that shape answers and leaves, once the tests up to these passed.
-pub record RunsRest (layouts : Layouts) (counter : Option ℕ) (limits limits' : Limits) (s : State) (sh : Shape) (left : List (Bool × Refusal)) (answer : Reply) (new : StoreView ℕ) (runner : RunnerView) : Type 0 where
+pub record RunsRest (layouts : Layouts) (counter : Option ℕ) (limits limits' : Limits) (s : State) (sh : CommandShape) (left : List (Bool × Refusal)) (answer : Reply) (new : StoreView ℕ) (runner : RunnerView) : Type 0 where
   pub after : State
-  pub answers : Answers layouts limits.limit s sh (first_failing left) answer after
+  pub answers : AnswersShape layouts limits.limit s sh (first_failing left) answer after
   pub follows : FollowsTested layouts counter s limits sh (first_failing left) answer after limits'
-  pub counts : Counts (shape_bytes layouts s sh) limits limits' answer after
+  pub counts : LimiterCounts (shape_bytes layouts s sh) limits limits' answer after
   pub holds : HoldsState layouts new runner after
 
 -- the same, or memory is wanting
-abbrev pub RunsOn : Layouts → Option ℕ → Limits → Limits → State → Shape → List (Bool × Refusal) → Result Reply RunError → StoreView ℕ → RunnerView → Type 0
+abbrev pub RunsOn : Layouts → Option ℕ → Limits → Limits → State → CommandShape → List (Bool × Refusal) → Result Reply RunError → StoreView ℕ → RunnerView → Type 0
 RunsOn layouts counter limits limits' s sh left (Ok answer) new runner = RunsRest layouts counter limits limits' s sh left answer new runner
 RunsOn layouts counter limits limits' s sh left (Err e) new runner = WantsAfter layouts counter limits limits' s sh (first_failing left) new runner
 
 -- the same of a shape that asks no limiter and leaves it and the account as they are
-pub record Goes (layouts : Layouts) (s : State) (sh : Shape) (left : List (Bool × Refusal)) (answer : Reply) (new : StoreView ℕ) (runner : RunnerView) : Type 0 where
+pub record GoesUnasked (layouts : Layouts) (s : State) (sh : CommandShape) (left : List (Bool × Refusal)) (answer : Reply) (new : StoreView ℕ) (runner : RunnerView) : Type 0 where
   pub after : State
-  pub answers : Answers layouts None s sh (first_failing left) answer after
+  pub answers : AnswersShape layouts None s sh (first_failing left) answer after
   pub account : after.account ≡ s.account
   pub holds : HoldsState layouts new runner after
 
 -- what a command of such a shape answers and leaves, once the tests up to these passed
-abbrev pub GoesBy : Layouts → State → Shape → List (Bool × Refusal) → Result Reply RunError → StoreView ℕ → RunnerView → Type 0
-GoesBy layouts s sh left (Ok answer) new runner = Goes layouts s sh left answer new runner
+abbrev pub GoesBy : Layouts → State → CommandShape → List (Bool × Refusal) → Result Reply RunError → StoreView ℕ → RunnerView → Type 0
+GoesBy layouts s sh left (Ok answer) new runner = GoesUnasked layouts s sh left answer new runner
 GoesBy layouts s sh left (Err e) new runner = HoldsState layouts new runner s
 
 -- what such a command answers and leaves

@@ -10,12 +10,12 @@ use Rattle.gc_commands.specs.declared.reply.Reply.{Reply}
 use Rattle.gc_script.specs.Slots.{RunnerView}
 use Rattle.gc_script.specs.State.{State}
 use Rattle.gc_script.specs.Shapes.{is_collection}
-use Rattle.gc_script.specs.Run.{Ran, IsAsked, WantsMemory, wanted_bytes}
+use Rattle.gc_script.specs.Run.{Ran, LimiterRefuses, WantsMemory, wanted_bytes}
 use Rattle.gc_script.specs.Policy.{RunByPolicy}
 
 -- a reply adds to the number of those that say what a limiter refused
 abbrev pub AddsRefused : Reply → State → ℕ → ℕ → ℕ → Type 0
-AddsRefused r after bytes before n = (IsAsked r after bytes × (n ≡ 1 + before)) ⊎ ((¬ IsAsked r after bytes) × (n ≡ before))
+AddsRefused r after bytes before n = (LimiterRefuses r after bytes × (n ≡ 1 + before)) ⊎ ((¬ LimiterRefuses r after bytes) × (n ≡ before))
 
 -- so many replies of a run say what a limiter refused
 abbrev pub RefusedIn : (layouts : Layouts) (counter : Option ℕ) (s : State) (limits : Limits) (cs : List Command) (rs : List Reply) (s' : State) (limits' : Limits) → RunByPolicy layouts counter s limits cs rs s' limits' → ℕ → Type 0

@@ -7,8 +7,8 @@ use Rattle.gc_owner.specs.declared.entry.GcClass.{GcClass}
 use Rattle.gc_owner.specs.declared.entry.GcClass.TheVariants as class
 use Rattle.gc_model.specs.Values.{Reference, null, small, at, Value, numeric, i32, i64, f32, f64, v128, function, continuation, Object, struct, array, host, exception}
 use Rattle.gc_model.specs.Values as values
-use Rattle.gc_model.specs.Table.{Table, Slot, Owned, empty_slot, push, leave, write}
-use Rattle.gc_model.specs.OwnedRoots.{own, owned_among, handles_changed, with_handles}
+use Rattle.gc_model.specs.Table.{Table, Slot, Owned, null_slot, push, leave, write}
+use Rattle.gc_model.specs.OwnedRoots.{own, owned_among, handles_changed, handled_roots}
 use Rattle.gc_model.specs.Frames.{push_frame, pop_frame, set_slot, slot_at}
 use Rattle.gc_model.specs.Globals.{set_global, global_at}
 use Rattle.gc_model.specs.Pending.{set_pending, take_pending}
@@ -23,20 +23,20 @@ use Rattle.gc_commands.specs.declared.reply.ReplyValue.TheVariants as reply_valu
 use Rattle.gc_commands.specs.declared.reply.Refusal.TheVariants as refusal
 use Rattle.gc_model.specs.Stored.{stored, stored_in, byte_value}
 use Rattle.gc_store.specs.Slots.{slot_value}
-use Rattle.gc_store.specs.Requests.{fields_of, exn_fields_of, element_of}
+use Rattle.gc_store.specs.Requests.{struct_fields_of, exn_fields_of, element_of}
 use Rattle.gc_script.specs.State.{State, Held, number, reference, HeldOwned, owned, unrooted, with_table, with_marks, set_register, set_owned, put_into}
 use Rattle.gc_commands.specs.TypeWords.{declared_struct, declared_array, declared_exception}
-use Rattle.gc_script.specs.Given.{given, given_register, given_value, given_values, named, Target, target, target_values, field_of}
+use Rattle.gc_script.specs.Given.{given, given_register, given_value, given_values, named, Target, target, target_values, target_field}
 
 -- the objects that `new`, `newexn`, `newarr`, `fixed`, `bytes` and `host` make
-abbrev pub new_struct : State → ℕ → List Operand → Object ℕ
-new_struct s t vs = struct t (stored_in (fields_of s.table.types t) (given_values s vs))
+abbrev pub given_struct : State → ℕ → List Operand → Object ℕ
+given_struct s t vs = struct t (stored_in (struct_fields_of s.table.types t) (given_values s vs))
 
 abbrev pub new_exception : State → ℕ → ℕ → List Operand → Object ℕ
 new_exception s t tag vs = exception t (record { instance = 0; index = tag }) (stored_in (exn_fields_of s.table.types t) (given_values s vs))
 
-abbrev pub new_array : State → ℕ → ℕ → Operand → Object ℕ
-new_array s t n v = array t (replicate n (stored (element_of s.table.types t) (given_value (given s v))))
+abbrev pub filled_array : State → ℕ → ℕ → Operand → Object ℕ
+filled_array s t n v = array t (replicate n (stored (element_of s.table.types t) (given_value (given s v))))
 
 abbrev pub new_fixed : State → ℕ → List Operand → Object ℕ
 new_fixed s t vs = array t (map (stored (element_of s.table.types t)) (given_values s vs))
@@ -67,8 +67,8 @@ shown_among objects (values.reference c null) = reply_value.Null
 shown_among objects (values.reference c (small n)) = reply_value.I31 n
 shown_among objects (values.reference c (at p)) = shown_object (slice_get objects p)
 
-abbrev pub shown : Table ℕ → Value → ReplyValue
-shown t v = shown_among t.objects v
+abbrev pub shown_value : Table ℕ → Value → ReplyValue
+shown_value t v = shown_among t.objects v
 
 -- What a register holds of a value that was read: a reference by its new root, whose serial is the next one. None holds a
 -- function or a continuation, or the values that are none.
@@ -92,7 +92,7 @@ makes_small d n s = (reply.Done, set_register d (reference class.Any (Some (leng
 
 -- a value is read, and put into a register where one is named that may hold it
 abbrev pub reads : Value → Option ℕ → State → Reply × State
-reads v into s = (reply.Value (shown s.table v), put_into into (held_value s.table v) (with_table (after_read v s.table) s))
+reads v into s = (reply.Value (shown_value s.table v), put_into into (held_value s.table v) (with_table (after_read v s.table) s))
 
 -- the value at an index of what a register names: of a field, or of an element
 abbrev pub value_in : State → ℕ → ℕ → Value
@@ -112,7 +112,7 @@ write_target (Some found) i v t = write found.position i v t
 
 abbrev pub writes_value : ℕ → ℕ → Operand → State → Reply × State
 writes_value r i v s =
-    (reply.Done, with_table (write_target (target s r) i (kept_as (field_of s.table (target s r) i) (given_value (given s v))) s.table) s)
+    (reply.Done, with_table (write_target (target s r) i (kept_as (target_field s.table (target s r) i) (given_value (given s v))) s.table) s)
 
 -- the length of an array is told
 abbrev pub tells_length : ℕ → State → Reply × State
@@ -145,21 +145,21 @@ abbrev pub enters : State → Reply × State
 enters s = (reply.Done, with_marks (s.marks ++ length s.table.scoped ∷ []) s)
 
 -- the newest scope mark, and those before it
-abbrev pub newest : List ℕ → ℕ
-newest marks = get_or marks (length marks - 1) 0
+abbrev pub newest_mark : List ℕ → ℕ
+newest_mark marks = get_or marks (length marks - 1) 0
 
 abbrev pub older : List ℕ → List ℕ
 older marks = take (length marks - 1) marks
 
 -- the newest scope is left
 abbrev pub leaves : State → Reply × State
-leaves s = (reply.Done, with_marks (older s.marks) (with_table (leave (newest s.marks) s.table) s))
+leaves s = (reply.Done, with_marks (older s.marks) (with_table (leave (newest_mark s.marks) s.table) s))
 
 -- the slot that a reference is put into
 abbrev pub slot_of : Value → Slot
-slot_of (numeric kind n) = empty_slot
-slot_of (function f) = empty_slot
-slot_of (continuation c) = empty_slot
+slot_of (numeric kind n) = null_slot
+slot_of (function f) = null_slot
+slot_of (continuation c) = null_slot
 slot_of (values.reference c r) = record { class = c; reference = r }
 
 -- a frame is opened, and the newest is closed
@@ -178,7 +178,7 @@ sets_slot k r s = (reply.Done, with_table (slot_to k (slot_of (given_value (give
 
 -- what a slot of the newest frame holds, which is read into a register
 abbrev pub frame_value : State → ℕ → Value
-frame_value s k = slot_value (unwrap_or (slot_at s.table k) empty_slot)
+frame_value s k = slot_value (unwrap_or (slot_at s.table k) null_slot)
 
 abbrev pub gets_slot : ℕ → ℕ → State → Reply × State
 gets_slot k d s = reads (frame_value s k) (Some d) s
@@ -192,19 +192,19 @@ sets_global g r s = (reply.Done, with_table (set_to g (slot_of (given_value (giv
 
 -- what a global holds, which is read into a register
 abbrev pub global_value : State → ℕ → Value
-global_value s g = slot_value (unwrap_or (global_at s.table g) empty_slot)
+global_value s g = slot_value (unwrap_or (global_at s.table g) null_slot)
 
 abbrev pub gets_global : ℕ → ℕ → State → Reply × State
 gets_global g d s = reads (global_value s g) (Some d) s
 
 -- owned roots of which one lost the handle that an owned register held, where it held one
-abbrev pub given_up : Option HeldOwned → List Owned → List Owned
-given_up None roots = roots
-given_up (Some unrooted) roots = roots
-given_up (Some (owned c n)) roots = with_handles (handles_changed n (λ m. m - 1) roots)
+abbrev pub owned_given_up : Option HeldOwned → List Owned → List Owned
+owned_given_up None roots = roots
+owned_given_up (Some unrooted) roots = roots
+owned_given_up (Some (owned c n)) roots = handled_roots (handles_changed n (λ m. m - 1) roots)
 
 abbrev pub give_up : Option HeldOwned → Table ℕ → Table ℕ
-give_up held t = record t { owned = given_up held t.owned }
+give_up held t = record t { owned = owned_given_up held t.owned }
 
 -- an owned root is made for what a register gives, and goes into an owned register; what that held is given up then
 abbrev pub owns_as : ℕ → Slot → State → State
@@ -254,9 +254,9 @@ abbrev pub takes_pending : ℕ → State → Reply × State
 takes_pending d s = reads (pending_value s.table.pending) (Some d) (with_table (take_pending s.table) s)
 
 -- what a collection tells: how many objects the heap holds then, or how many increments it took
-pub data Told : Type 0 where
-  of_objects : Told
-  of_increments : Told
+pub data ToldCount : Type 0 where
+  of_objects : ToldCount
+  of_increments : ToldCount
 
 -- What a command does, in so far as heap and limiter have to do with it:
 -- `plain` answers and leaves what the function says of what is visible of the state, and nothing hidden changes;
@@ -265,22 +265,22 @@ pub data Told : Type 0 where
 -- `growing` lets the heap grow by so many bytes;
 -- `collecting` collects, and tells one thing or the other of it;
 -- `showing` tells the heap's pages.
-pub data Shape : Type 0 where
-  plain : (State → Reply × State) → Shape
-  declaring : (List Declaration → Option Declaration) → Shape
-  making : ℕ → GcClass → (State → Object ℕ) → Shape
-  growing : ℕ → Shape
-  collecting : Told → Shape
-  showing : Shape
+pub data CommandShape : Type 0 where
+  plain : (State → Reply × State) → CommandShape
+  declaring : (List Declaration → Option Declaration) → CommandShape
+  making : ℕ → GcClass → (State → Object ℕ) → CommandShape
+  growing : ℕ → CommandShape
+  collecting : ToldCount → CommandShape
+  showing : CommandShape
 
 -- the shape of a command; one that is not built is never run
-abbrev pub shape : Command → Shape
+abbrev pub shape : Command → CommandShape
 shape (Struct is_final supertype fs) = declaring (declared_struct is_final supertype fs)
 shape (Array is_final supertype element) = declaring (declared_array is_final supertype element)
 shape (Exn params) = declaring (declared_exception params)
-shape (New d t vs) = making d class.Any (λ (s : State). new_struct s t vs)
+shape (New d t vs) = making d class.Any (λ (s : State). given_struct s t vs)
 shape (NewExn d t tag vs) = making d class.Exn (λ (s : State). new_exception s t tag vs)
-shape (NewArr d t n v) = making d class.Any (λ (s : State). new_array s t n v)
+shape (NewArr d t n v) = making d class.Any (λ (s : State). filled_array s t n v)
 shape (Fixed d t vs) = making d class.Any (λ (s : State). new_fixed s t vs)
 shape (NewBytes d t bytes) = making d class.Any (λ (s : State). new_bytes t bytes)
 shape (ReadBytes r n) = plain (tells_bytes r)

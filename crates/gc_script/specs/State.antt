@@ -7,7 +7,7 @@ use Rattle.gc_model.specs.Values.{Value, numeric, i32, i64, f32, f64, v128, numb
 use Rattle.gc_model.specs.Table.{Table}
 use Rattle.gc_model.specs.Stores.{StoreView}
 use Rattle.gc_policy.specs.Accounts.{Account, no_account, HoldsAccount}
-use Rattle.gc_store.specs.Roots.{Names, owned_handle}
+use Rattle.gc_store.specs.Roots.{NamesSerial, owned_handle}
 use Rattle.gc_values.specs.declared.root.RawValue.{RawValue}
 use Rattle.gc_values.specs.declared.root.RawValue.TheVariants as raw
 use Rattle.gc_script.specs.Slots.{register_at, RunnerView}
@@ -98,16 +98,16 @@ abbrev pub over : State → State → State
 over s v = with_hidden (hidden s) v
 
 -- What a register of the runner holds is what one of the table holds: a handle is that of the serial.
-abbrev pub Stands : StoreView ℕ → Table ℕ → Option RawValue → Option Held → Type 0
-Stands s t None None = Unit {0}
-Stands s t (Some (raw.I32 n)) (Some (number v)) = v ≡ numeric i32 (number_bits w32 n)
-Stands s t (Some (raw.I64 n)) (Some (number v)) = v ≡ numeric i64 (number_bits w64 n)
-Stands s t (Some (raw.F32 n)) (Some (number v)) = v ≡ numeric f32 n
-Stands s t (Some (raw.F64 n)) (Some (number v)) = v ≡ numeric f64 n
-Stands s t (Some (raw.V128 n)) (Some (number v)) = v ≡ numeric v128 n
-Stands s t (Some (raw.Ref class (Some handle))) (Some (reference class' (Some serial))) = (class ≡ class') × Names s t handle serial
-Stands s t (Some (raw.Ref class None)) (Some (reference class' None)) = class ≡ class'
-Stands s t _ _ = ⊥
+abbrev pub RegisterStands : StoreView ℕ → Table ℕ → Option RawValue → Option Held → Type 0
+RegisterStands s t None None = Unit {0}
+RegisterStands s t (Some (raw.I32 n)) (Some (number v)) = v ≡ numeric i32 (number_bits w32 n)
+RegisterStands s t (Some (raw.I64 n)) (Some (number v)) = v ≡ numeric i64 (number_bits w64 n)
+RegisterStands s t (Some (raw.F32 n)) (Some (number v)) = v ≡ numeric f32 n
+RegisterStands s t (Some (raw.F64 n)) (Some (number v)) = v ≡ numeric f64 n
+RegisterStands s t (Some (raw.V128 n)) (Some (number v)) = v ≡ numeric v128 n
+RegisterStands s t (Some (raw.Ref class (Some handle))) (Some (reference class' (Some serial))) = (class ≡ class') × NamesSerial s t handle serial
+RegisterStands s t (Some (raw.Ref class None)) (Some (reference class' None)) = class ≡ class'
+RegisterStands s t _ _ = ⊥
 
 -- What an owned register of the runner holds is what one of the table holds: a handle is that of the owned root, and none is
 -- there where the root was given up.
@@ -120,6 +120,6 @@ StandsOwned s _ _ = ⊥
 -- the store and the runner are in that state
 pub record HoldsState (layouts : Layouts) (s : StoreView ℕ) (runner : RunnerView) (state : State) : Type 0 where
   pub table : HoldsAccount layouts s state.table state.account
-  pub registers : (d : ℕ) → Stands s state.table (register_at runner.registers d) (state.registers d)
+  pub registers : (d : ℕ) → RegisterStands s state.table (register_at runner.registers d) (state.registers d)
   pub owned : (o : ℕ) → StandsOwned s (register_at runner.rest.owned o) (state.owned_registers o)
   pub marks : runner.rest.marks ≡ state.marks

@@ -29,8 +29,8 @@ use Rattle.gc_store.specs.IncrementCounts.{TakesIncrements}
 use Rattle.gc_store.specs.Slots.{slot_value}
 use Rattle.gc_script.specs.State.{State, reference, HeldOwned, with_table, with_account, with_heap, set_register, visible, over}
 use Rattle.gc_script.specs.Built.{is_built}
-use Rattle.gc_script.specs.Given.{Given, given, given_register, given_value, is_unset, is_gone, is_reference, value_named, named, is_struct, is_array, is_host, is_exception, has_fields, names_kind, target, target_values, field_of, is_constant, holds_bytes, fits_field}
-use Rattle.gc_script.specs.Shapes.{Shape, plain, declaring, making, growing, collecting, showing, shape, Told, of_objects, of_increments, owned_named, new_struct, new_exception, new_array, new_fixed, new_bytes}
+use Rattle.gc_script.specs.Given.{Given, given, given_register, given_value, is_unset, is_gone, is_reference, value_named, named, is_struct, is_array, is_host, is_exception, has_fields, names_kind, target, target_values, target_field, is_constant, holds_bytes, fits_field}
+use Rattle.gc_script.specs.Shapes.{CommandShape, plain, declaring, making, growing, collecting, showing, shape, ToldCount, of_objects, of_increments, owned_named, given_struct, new_exception, filled_array, new_fixed, new_bytes}
 
 -- how many fields these are; 0 where there are none
 abbrev pub count_in : Option (List FieldType) → ℕ
@@ -90,7 +90,7 @@ reading_tests of_kind s r i =
 
 -- the test of whether a value may be written there
 abbrev pub constant_test : State → ℕ → ℕ → Bool × Refusal
-constant_test s r i = (is_constant (field_of s.table (target s r) i), refusal.Immutable)
+constant_test s r i = (is_constant (target_field s.table (target s r) i), refusal.Immutable)
 
 -- the tests of names and of the target that come first where a value is written
 abbrev pub writing_tests : (Object ℕ → Bool) → State → ℕ → Operand → List (Bool × Refusal)
@@ -103,13 +103,13 @@ writing_tests of_kind s r v =
 abbrev pub set_tests : State → ℕ → ℕ → Operand → List (Bool × Refusal)
 set_tests s r i v =
     writing_tests is_struct s r v
-    ++ (bound_test s r i ∷ constant_test s r i ∷ value_tests s (field_of s.table (target s r) i) v)
+    ++ (bound_test s r i ∷ constant_test s r i ∷ value_tests s (target_field s.table (target s r) i) v)
 
 -- the tests of writing an element: its index is tested last
 abbrev pub set_elem_tests : State → ℕ → ℕ → Operand → List (Bool × Refusal)
 set_elem_tests s r i v =
     writing_tests is_array s r v
-    ++ (constant_test s r i ∷ (value_tests s (field_of s.table (target s r) i) v ++ bound_test s r i ∷ []))
+    ++ (constant_test s r i ∷ (value_tests s (target_field s.table (target s r) i) v ++ bound_test s r i ∷ []))
 
 -- the tests of asking for the length of an array
 abbrev pub len_tests : State → ℕ → List (Bool × Refusal)
@@ -123,7 +123,7 @@ host_tests s r = (is_unset (given_register s r), refusal.NoSuchName) ∷ target_
 abbrev pub bytes_tests : State → ℕ → ℕ → List (Bool × Refusal)
 bytes_tests s r n =
     len_tests s r
-    ++ ((not (holds_bytes (field_of s.table (target s r) 0)), refusal.NotI8Array)
+    ++ ((not (holds_bytes (target_field s.table (target s r) 0)), refusal.NotI8Array)
     ∷ (not (length (target_values (target s r)) == n), refusal.LengthMismatch)
     ∷ [])
 
@@ -233,11 +233,11 @@ abbrev pub take_tests : State → List (Bool × Refusal)
 take_tests s = (is_some s.table.pending && roots_full s.table, refusal.RootsFull) ∷ []
 
 -- The tests of a command of a built form, in their order; the first that is true refuses it. Whether a type
--- may be declared is tested by `Declares`.
+-- may be declared is tested by `AnswersDeclare`.
 abbrev pub built_tests : Layouts → State → Command → List (Bool × Refusal)
-built_tests layouts s (New d t vs) = new_tests s t vs ++ heap_tests layouts s (new_struct s t vs)
+built_tests layouts s (New d t vs) = new_tests s t vs ++ heap_tests layouts s (given_struct s t vs)
 built_tests layouts s (NewExn d t tag vs) = new_exn_tests s t vs ++ heap_tests layouts s (new_exception s t tag vs)
-built_tests layouts s (NewArr d t n v) = new_array_tests s t n v ++ heap_tests layouts s (new_array s t n v)
+built_tests layouts s (NewArr d t n v) = new_array_tests s t n v ++ heap_tests layouts s (filled_array s t n v)
 built_tests layouts s (Fixed d t vs) = new_fixed_tests s t vs ++ heap_tests layouts s (new_fixed s t vs)
 built_tests layouts s (NewBytes d t bytes) = new_bytes_tests s t ++ heap_tests layouts s (new_bytes t bytes)
 built_tests layouts s (ReadBytes r n) = bytes_tests s r n
@@ -273,12 +273,12 @@ first_failing [] = None
 first_failing (t ∷ ts) = if t.0 then Some t.1 else first_failing ts
 
 -- A type was declared that a declaration spells, or it may not be.
-pub data Declares (d : Option Declaration) (s : State) (answer : Reply) (s' : State) : Type 0 where
+pub data AnswersDeclare (d : Option Declaration) (s : State) (answer : Reply) (s' : State) : Type 0 where
   declared : (new : Declaration) → d ≡ Some new → Declarable s.table.types new → answer ≡ reply.Declared (length s.table.types)
       → s' ≡ with_table (declare new s.table) s
-      → Declares d s answer s'
+      → AnswersDeclare d s answer s'
   bad : ((new : Declaration) → d ≡ Some new → ¬ Declarable s.table.types new) → answer ≡ reply.Refused refusal.BadType → s' ≡ s
-      → Declares d s answer s'
+      → AnswersDeclare d s answer s'
 
 -- An object was made and put into a register, or the heap had no room for it.
 pub data MakesNew (layouts : Layouts) (limit : Option ℕ) (d : ℕ) (class : GcClass) (o : Object ℕ) (s : State) (answer : Reply) (s' : State) : Type 0 where
@@ -304,31 +304,31 @@ pub record Keeps (layouts : Layouts) (s : State) (answer : Reply) : Type 0 where
   pub kept : KeepsNumber layouts s.table objects hosts
 
 -- a collection took so many increments
-pub record CountsSteps (layouts : Layouts) (s : State) (answer : Reply) : Type 0 where
+pub record TellsIncrements (layouts : Layouts) (s : State) (answer : Reply) : Type 0 where
   pub increments : ℕ
   pub shows : answer ≡ reply.Increments increments
   pub takes : TakesIncrements layouts s.table increments
 
 -- what a collection tells
-abbrev pub Tells : Layouts → State → Told → Reply → Type 0
+abbrev pub Tells : Layouts → State → ToldCount → Reply → Type 0
 Tells layouts s of_objects answer = Keeps layouts s answer
-Tells layouts s of_increments answer = CountsSteps layouts s answer
+Tells layouts s of_increments answer = TellsIncrements layouts s answer
 
 -- what a command of that shape does whose tests all passed
-abbrev pub Does : Layouts → Option ℕ → State → Shape → Reply → State → Type 0
+abbrev pub Does : Layouts → Option ℕ → State → CommandShape → Reply → State → Type 0
 Does layouts limit s (plain effect) answer s' = (answer ≡ (effect (visible s)).0) × (s' ≡ over s (effect (visible s)).1)
-Does layouts limit s (declaring d) answer s' = Declares (d s.table.types) s answer s'
+Does layouts limit s (declaring d) answer s' = AnswersDeclare (d s.table.types) s answer s'
 Does layouts limit s (making d class object) answer s' = MakesNew layouts limit d class (object (visible s)) s answer s'
 Does layouts limit s (growing n) answer s' = AnswersGrow limit n s answer s'
 Does layouts limit s (collecting told) answer s' = Tells layouts s told answer × ((a : Account) × (s' ≡ with_account a s))
 Does layouts limit s showing answer s' = (answer ≡ reply.Capacity (page * s.table.pages)) × (s' ≡ s)
 
 -- a command that a test refuses replies its refusal and changes nothing; any other does what its shape says
-abbrev pub Answers : Layouts → Option ℕ → State → Shape → Option Refusal → Reply → State → Type 0
-Answers layouts limit s sh (Some why) answer s' = (answer ≡ reply.Refused why) × (s' ≡ s)
-Answers layouts limit s sh None answer s' = Does layouts limit s sh answer s'
+abbrev pub AnswersShape : Layouts → Option ℕ → State → CommandShape → Option Refusal → Reply → State → Type 0
+AnswersShape layouts limit s sh (Some why) answer s' = (answer ≡ reply.Refused why) × (s' ≡ s)
+AnswersShape layouts limit s sh None answer s' = Does layouts limit s sh answer s'
 
 -- From a state, a command may get this reply and go on to that state, under a limit of pages that is
 -- told or not.
 abbrev pub Step : Layouts → Option ℕ → State → Command → Reply → State → Type 0
-Step layouts limit s c answer s' = Answers layouts limit s (shape c) (first_failing (tests layouts s c)) answer s'
+Step layouts limit s c answer s' = AnswersShape layouts limit s (shape c) (first_failing (tests layouts s c)) answer s'

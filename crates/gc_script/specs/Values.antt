@@ -26,20 +26,20 @@ use Rattle.gc_store.specs.Slots.{HandleStands}
 use Rattle.gc_store.specs.Values.{RawStands, AllStand, CanStore}
 use Rattle.gc_script.specs.declared.objects.ValueTypes.{ValueTypes}
 use Rattle.gc_script.specs.Slots.{register_at}
-use Rattle.gc_script.specs.State.{State, Stands}
+use Rattle.gc_script.specs.State.{State, RegisterStands}
 use Rattle.gc_script.specs.Given.{held_operand, Given, gone, is, given, given_register, given_value, given_values, is_unset, is_gone, is_reference}
-use Rattle.gc_script.specs.Shapes.{shown}
+use Rattle.gc_script.specs.Shapes.{shown_value}
 use Rattle.gc_script.specs.Steps.{any_unset, first_failing, value_tests}
 use Rattle.gc_script.specs.Named.{type_at}
 
 -- the registers are those of the state
 abbrev pub AreRegisters : StoreView ℕ → List (Option RawValue) → State → Type 0
-AreRegisters store slots s = (d : ℕ) → Stands store s.table (register_at slots d) (s.registers d)
+AreRegisters store slots s = (d : ℕ) → RegisterStands store s.table (register_at slots d) (s.registers d)
 
 -- what an operand holds, in each state that has these registers
 abbrev pub HoldsOperand : List (Option RawValue) → Operand → Option RawValue → Type 0
 HoldsOperand slots operand found =
-    (store : StoreView ℕ) (s : State) → AreRegisters store slots s → Stands store s.table found (held_operand s operand)
+    (store : StoreView ℕ) (s : State) → AreRegisters store slots s → RegisterStands store s.table found (held_operand s operand)
 
 -- so by the value; none where it is a register that is unset
 abbrev pub raw_operand : List (Option RawValue) → Operand → Option RawValue
@@ -62,7 +62,7 @@ set_operands slots vs = map (set_operand slots) vs
 
 -- the values are what the operands hold
 abbrev pub AllHeld : StoreView ℕ → State → List Operand → List RawValue → Type 0
-AllHeld store s = AllZip (λ (v : Operand) (r : RawValue). Stands store s.table (Some r) (held_operand s v))
+AllHeld store s = AllZip (λ (v : Operand) (r : RawValue). RegisterStands store s.table (Some r) (held_operand s v))
 
 -- some operand is a register that is unset, in each state that has these registers
 abbrev pub HasUnset : List (Option RawValue) → List Operand → Type 0
@@ -109,13 +109,13 @@ abbrev pub registered : RawValue → Option RawValue
 registered r = if is_opaque r then None else Some r
 
 -- A value that is found live stands for what is given; else its root is gone.
-abbrev pub IsFound : StoreView ℕ → Table ℕ → RawValue → Given → Bool → Type 0
-IsFound store t r g true = (v : Value) × ((g ≡ is v) × RawStands store t r v)
-IsFound store t r g false = g ≡ gone
+abbrev pub IsFoundLive : StoreView ℕ → Table ℕ → RawValue → Given → Bool → Type 0
+IsFoundLive store t r g true = (v : Value) × ((g ≡ is v) × RawStands store t r v)
+IsFoundLive store t r g false = g ≡ gone
 
 -- the reply shows the value, in each table that the store holds
 abbrev pub ShowsRead : Layouts → StoreView ℕ → RawValue → Reply → Type 0
-ShowsRead layouts store r answer = (t : Table ℕ) (v : Value) → HoldsTable layouts store t → RawStands store t r v → answer ≡ reply.Value (shown t v)
+ShowsRead layouts store r answer = (t : Table ℕ) (v : Value) → HoldsTable layouts store t → RawStands store t r v → answer ≡ reply.Value (shown_value t v)
 
 -- the tests of what goes into a slot, by what a register gives
 abbrev pub reference_tests : Given → List (Bool × Refusal)
@@ -137,19 +137,19 @@ FindsReference store s r (Ok found) = FoundReference store s r found.0 found.1
 FindsReference store s r (Err why) = first_failing (reference_tests (given_register s r)) ≡ Some why
 
 -- a value may be put into a field or an element of that type, where there is one
-abbrev pub CanStoreAs : Layouts → StoreView ℕ → Option FieldType → RawValue → Type 0
-CanStoreAs layouts store None r = ⊥
-CanStoreAs layouts store (Some field) r = CanStore ℕ layouts store field.element_type r
+abbrev pub CanStoreRaw : Layouts → StoreView ℕ → Option FieldType → RawValue → Type 0
+CanStoreRaw layouts store None r = ⊥
+CanStoreRaw layouts store (Some field) r = CanStore ℕ layouts store field.element_type r
 
 -- so of values in order
-abbrev pub AllStorable : Layouts → StoreView ℕ → ValueTypes → List RawValue → Type 0
-AllStorable layouts store types raws =
-    (i : ℕ) (r : RawValue) → slice_get raws i ≡ Some r → CanStoreAs layouts store (type_at store.types types i) r
+abbrev pub AllRawStorable : Layouts → StoreView ℕ → ValueTypes → List RawValue → Type 0
+AllRawStorable layouts store types raws =
+    (i : ℕ) (r : RawValue) → slice_get raws i ≡ Some r → CanStoreRaw layouts store (type_at store.types types i) r
 
 -- A value may go into a field of that type, where the tests say so; else it is refused as they say.
-abbrev pub ChecksValue : StoreView ℕ → State → Option FieldType → Operand → RawValue → Result (Unit {0}) Refusal → Type 0
-ChecksValue store s field v r (Ok done) = (first_failing (value_tests s field v) ≡ None) × RawStands store s.table r (given_value (given s v))
-ChecksValue store s field v r (Err why) = first_failing (value_tests s field v) ≡ Some why
+abbrev pub ChecksOperand : StoreView ℕ → State → Option FieldType → Operand → RawValue → Result (Unit {0}) Refusal → Type 0
+ChecksOperand store s field v r (Ok done) = (first_failing (value_tests s field v) ≡ None) × RawStands store s.table r (given_value (given s v))
+ChecksOperand store s field v r (Err why) = first_failing (value_tests s field v) ≡ Some why
 
 -- the tests of values in order, the first of which has the type at that index
 abbrev pub typed_tests : State → (ℕ → Option FieldType) → ℕ → List Operand → List (Bool × Refusal)
@@ -157,10 +157,10 @@ typed_tests s types i [] = []
 typed_tests s types i (v ∷ vs) = value_tests s (types i) v ++ typed_tests s types (suc i) vs
 
 -- the same of values in order
-abbrev pub ChecksValues : StoreView ℕ → State → ValueTypes → List Operand → List RawValue → Result (Unit {0}) Refusal → Type 0
-ChecksValues store s types vs raws (Ok done) =
+abbrev pub ChecksOperands : StoreView ℕ → State → ValueTypes → List Operand → List RawValue → Result (Unit {0}) Refusal → Type 0
+ChecksOperands store s types vs raws (Ok done) =
     (first_failing (typed_tests s (type_at s.table.types types) 0 vs) ≡ None) × AllStand store s.table raws (given_values s vs)
-ChecksValues store s types vs raws (Err why) = first_failing (typed_tests s (type_at s.table.types types) 0 vs) ≡ Some why
+ChecksOperands store s types vs raws (Err why) = first_failing (typed_tests s (type_at s.table.types types) 0 vs) ≡ Some why
 
 -- whether a value is a number of that type
 abbrev pub number_fits : ValType → RawValue → Bool

@@ -24,13 +24,13 @@ IsUnrefused None = Unit {0}
 IsUnrefused (Some why) = is_of_room why ≡ true
 
 -- a register is named, and was never set
-abbrev pub IsNew : State → Option ℕ → Type 0
-IsNew s None = ⊥
-IsNew s (Some d) = s.registers d ≡ None
+abbrev pub IsNeverSet : State → Option ℕ → Type 0
+IsNeverSet s None = ⊥
+IsNeverSet s (Some d) = s.registers d ≡ None
 
 -- reading a value makes a root, or goes into a register that was never set
 abbrev pub ReadTakes : State → Value → Option ℕ → Type 0
-ReadTakes s v into = (makes_root v ≡ true) ⊎ IsNew s into
+ReadTakes s v into = (makes_root v ≡ true) ⊎ IsNeverSet s into
 
 -- What a command that isn't refused takes memory for. That a declaration is `BadType` is told by its effect and is no test; `grow` and `bytes` of a length count
 -- as taking some whatever their number is.
@@ -39,7 +39,7 @@ TakesIn s (Field r i into) = ReadTakes s (value_in s r i) into
 TakesIn s (Elem r i into) = ReadTakes s (value_in s r i) into
 TakesIn s (Load k d) = ReadTakes s (frame_value s k) (Some d)
 TakesIn s (GetGlobal g d) = ReadTakes s (global_value s g) (Some d)
-TakesIn s (Take d) = (¬ (s.table.pending ≡ None)) ⊎ IsNew s (Some d)
+TakesIn s (Take d) = (¬ (s.table.pending ≡ None)) ⊎ IsNeverSet s (Some d)
 TakesIn s c = takes_memory c ≡ true
 
 -- A command may want memory in that state: it takes some there, and no test refuses it but those of room.

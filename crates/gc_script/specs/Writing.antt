@@ -9,7 +9,7 @@ use Rattle.gc_values.specs.declared.root.RawValue.{RawValue}
 use Rattle.gc_store.specs.Values.{RawStands}
 use Rattle.gc_script.specs.declared.objects.Wanted.{Wanted}
 use Rattle.gc_script.specs.declared.writes.Written.{Written}
-use Rattle.gc_script.specs.State.{State, Stands}
+use Rattle.gc_script.specs.State.{State, RegisterStands}
 use Rattle.gc_script.specs.Given.{held_operand, given, given_value, is_constant}
 use Rattle.gc_script.specs.Steps.{first_failing, value_tests, writing_tests}
 use Rattle.gc_script.specs.Named.{wants, FoundObject}
@@ -27,7 +27,7 @@ ChecksWrite store s field v r (Err why) = first_failing (stored_tests s field v)
 pub record FoundWritten (store : StoreView ℕ) (s : State) (kind : Wanted) (r : ℕ) (v : Operand) (written : Written) : Type 0 where
   pub passes : first_failing (writing_tests (wants kind) s r v) ≡ None
   pub found : FoundObject store s kind r written.object
-  pub stands : Stands store s.table (Some written.value) (held_operand s v)
+  pub stands : RegisterStands store s.table (Some written.value) (held_operand s v)
 
 -- so it is, or the tests say why not
 abbrev pub FindsWritten : StoreView ℕ → State → Wanted → ℕ → Operand → Result Written Refusal → Type 0

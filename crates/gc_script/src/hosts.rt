@@ -7,7 +7,7 @@ ghost use Rattle.gc_script.specs.Run.{RunsOne, GoesOn};
 ghost use Rattle.gc_store.specs.Stores.{IsSameStore};
 
 use crate::runner::{RunError, Runner};
-use crate::values::{handle_of, is_live};
+use crate::values::is_live;
 use gc_commands::{Refusal, Reply};
 use gc_heap::GcHeap;
 use gc_store::{GcClass, PlaceHostFault, RawValue, ResourceLimiter, Store};
@@ -54,7 +54,7 @@ impl Runner {
         if !is_live(store, &value) {
             return Reply::Refused(Refusal::Unrooted);
         }
-        let root = match handle_of(&value) {
+        let root = match value.handle() {
             Some(root) => root,
             None => return Reply::Refused(Refusal::WrongKind),
         };

@@ -5,10 +5,9 @@ ghost use Rattle.gc_model.specs.Holds.{HoldsTable};
 ghost use Rattle.gc_model.specs.Table.{Table};
 ghost use Rattle.gc_model.specs.Values.{Reference};
 ghost use Rattle.gc_store.specs.Roots.{NamesReference, IsReference, FindsRoot};
-ghost use Rattle.gc_script.specs.State.{State, Stands};
-ghost use Rattle.gc_script.specs.Named.{takes, count_of_fields, described, type_at, IsNamed, IsNamedEverywhere, TellsObject, FindsObject};
+ghost use Rattle.gc_script.specs.State.{State, RegisterStands};
+ghost use Rattle.gc_script.specs.Named.{takes, count_of_fields, described, type_at, IsNamedSomewhere, IsNamedEverywhere, TellsObject, FindsObject};
 
-use crate::values::handle_of;
 use gc_commands::Refusal;
 use gc_heap::GcHeap;
 use gc_store::{GcRootIndex, RawValue, RootedObject, Store};
@@ -104,7 +103,7 @@ fn object_of<H: GcHeap>(
     wanted: Wanted,
     object: &RootedObject,
 ) -> Option<NamedObject>
-    ensures named { FindsRoot ℕ H.KIND store.now root object.now → IfSome result (IsNamed H.KIND store.now wanted) }
+    ensures named { FindsRoot ℕ H.KIND store.now root object.now → IfSome result (IsNamedSomewhere H.KIND store.now wanted) }
     ensures root { IfSome result (λ found. found.root ≡ root) }
     ensures tells { (t : Table ℕ) (r : Reference) → HoldsTable H.KIND store.now t → NamesReference store.now t root r → IsReference t r object.now
         → TellsObject store.now t wanted r result }
@@ -123,12 +122,12 @@ pub(crate) fn find_object<H: GcHeap>(
     value: &RawValue,
     wanted: Wanted,
 ) -> Result<NamedObject, Refusal>
-    ensures named { IfOk result (IsNamed H.KIND store.now wanted) }
+    ensures named { IfOk result (IsNamedSomewhere H.KIND store.now wanted) }
     ensures everywhere { IfOk result (IsNamedEverywhere H.KIND store.now wanted) }
-    ensures finds { (s : State) (r : ℕ) → HoldsTable H.KIND store.now s.table → Stands store.now s.table (Some value.now) (s.registers r)
+    ensures finds { (s : State) (r : ℕ) → HoldsTable H.KIND store.now s.table → RegisterStands store.now s.table (Some value.now) (s.registers r)
         → FindsObject store.now s wanted r result }
 {
-    let root = match handle_of(value) {
+    let root = match value.handle() {
         Some(root) => root,
         None => return Err(Refusal::WrongKind),
     };

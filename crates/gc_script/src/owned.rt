@@ -11,7 +11,7 @@ ghost use Rattle.gc_script.specs.Wants.{MayWant};
 ghost use Rattle.gc_store.specs.Stores.{IsSameStore};
 
 use crate::runner::{RunError, Runner};
-use crate::values::{handle_of, slot_of};
+use crate::values::slot_of;
 use gc_commands::{Refusal, Reply};
 use gc_heap::GcHeap;
 use gc_store::{RawValue, RootFault, Store};
@@ -23,7 +23,7 @@ fn give_up_held<H: GcHeap>(store: &mut Store<H, u64>, held: Option<RawValue>)
     ensures same { IsSameStore store.old store.new }
 {
     match held {
-        Some(value) => match handle_of(&value) {
+        Some(value) => match value.handle() {
             Some(handle) => match store.release(handle) {
                 Ok(_) => {}
                 // An owned register holds handles of this store, which never answers this.

@@ -9,7 +9,7 @@ ghost use Rattle.gc_script.specs.Steps.{first_failing, reading_tests};
 ghost use Rattle.gc_script.specs.Run.{GoesOn, GoesBy};
 ghost use Rattle.gc_script.specs.Wants.{IsUnrefused, ReadTakes, MayWant};
 ghost use Rattle.gc_script.specs.Slots.{register_at};
-ghost use Rattle.gc_script.specs.Named.{wants, HasRoom, LacksRoom, register_with};
+ghost use Rattle.gc_script.specs.Named.{wants, HasRegister, LacksRegister, register_with};
 ghost use Rattle.gc_script.specs.Values.{ShowsRead, registered};
 ghost use Rattle.gc_store.specs.Stores.{IsSameStore};
 
@@ -26,8 +26,8 @@ use std::alloc::AllocError;
 
 /// Makes room for a register, where one is named.
 pub(crate) fn make_room(registers: &mut Registers, into: Option<u16>) -> Result<(), AllocError>
-    ensures room { OnOk result (HasRoom into registers.new) }
-    ensures had_none { OnErr result (LacksRoom into registers.old) }
+    ensures room { OnOk result (HasRegister into registers.new) }
+    ensures had_none { OnErr result (LacksRegister into registers.old) }
     ensures same { (d : ℕ) → register_at registers.new d ≡ register_at registers.old d }
 {
     match into {
@@ -38,7 +38,7 @@ pub(crate) fn make_room(registers: &mut Registers, into: Option<u16>) -> Result<
 
 /// Puts a value into a register, where one is named.
 fn put_into(registers: &mut Registers, into: Option<u16>, value: RawValue)
-    requires { HasRoom into registers.old }
+    requires { HasRegister into registers.old }
     ensures { (d : ℕ) → register_at registers.new d ≡ register_with into (Some value) registers.old d }
 {
     match into {
@@ -55,7 +55,7 @@ pub(crate) fn put_read<H: GcHeap>(
     into: Option<u16>,
     value: RawValue,
 ) -> Reply
-    requires { HasRoom into registers.old }
+    requires { HasRegister into registers.old }
     ensures put { (d : ℕ) → register_at registers.new d ≡ register_with into (registered value) registers.old d }
     ensures shows { ShowsRead H.KIND store.now value result }
 {

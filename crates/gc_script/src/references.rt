@@ -7,7 +7,7 @@ ghost use Rattle.gc_script.specs.Run.{GoesOn};
 ghost use Rattle.gc_script.specs.Values.{FindsReference};
 
 use crate::runner::Runner;
-use crate::values::{handle_of, is_live, slot_of};
+use crate::values::{is_live, slot_of};
 use gc_commands::{Refusal, Reply};
 use gc_heap::GcHeap;
 use gc_store::{GcClass, GcRootIndex, Store};
@@ -50,11 +50,11 @@ impl Runner {
         if !is_live(store, &first) || !is_live(store, &second) {
             return Reply::Refused(Refusal::Unrooted);
         }
-        let first_root = match handle_of(&first) {
+        let first_root = match first.handle() {
             Some(root) => root,
             None => return Reply::Refused(Refusal::WrongKind),
         };
-        let second_root = match handle_of(&second) {
+        let second_root = match second.handle() {
             Some(root) => root,
             None => return Reply::Refused(Refusal::WrongKind),
         };

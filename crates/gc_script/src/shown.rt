@@ -7,7 +7,7 @@ ghost use Rattle.gc_model.specs.Table.{Table};
 ghost use Rattle.gc_model.specs.Values.{Reference, Value, reference};
 ghost use Rattle.gc_store.specs.Roots.{IsReference};
 ghost use Rattle.gc_store.specs.Values.{RawStands};
-ghost use Rattle.gc_script.specs.Shapes.{shown};
+ghost use Rattle.gc_script.specs.Shapes.{shown_value};
 
 use gc_commands::ReplyValue;
 use gc_heap::GcHeap;
@@ -15,7 +15,7 @@ use gc_store::{GcRootIndex, RawValue, RootedObject, Store};
 
 /// A reference that is not null as a reply shows it.
 fn shown_object(object: &RootedObject) -> ReplyValue
-    ensures { (t : Table ℕ) (class : GcClass) (r : Reference) → IsReference t r object.now → result ≡ shown t (reference class r) }
+    ensures { (t : Table ℕ) (class : GcClass) (r : Reference) → IsReference t r object.now → result ≡ shown_value t (reference class r) }
 {
     match object {
         RootedObject::I31(number) => ReplyValue::I31(number.get_u32()),
@@ -29,7 +29,7 @@ fn shown_object(object: &RootedObject) -> ReplyValue
 /// A root or null as a reply shows it.
 pub fn shown_root<H: GcHeap>(store: &Store<H, u64>, handle: Option<GcRootIndex>) -> ReplyValue
     ensures { (t : Table ℕ) (class : GcClass) (v : Value) → HoldsTable H.KIND store.now t → RawStands store.now t (RawValue.Ref class handle) v
-        → result ≡ shown t v }
+        → result ≡ shown_value t v }
 {
     let handle = match handle {
         Some(handle) => handle,
@@ -44,7 +44,7 @@ pub fn shown_root<H: GcHeap>(store: &Store<H, u64>, handle: Option<GcRootIndex>)
 
 /// A value as a reply shows it.
 pub(crate) fn shown<H: GcHeap>(store: &Store<H, u64>, value: &RawValue) -> ReplyValue
-    ensures { (t : Table ℕ) (v : Value) → HoldsTable H.KIND store.now t → RawStands store.now t value.now v → result ≡ shown t v }
+    ensures { (t : Table ℕ) (v : Value) → HoldsTable H.KIND store.now t → RawStands store.now t value.now v → result ≡ shown_value t v }
 {
     match value {
         RawValue::I32(number) => ReplyValue::I32(*number),

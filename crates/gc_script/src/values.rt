@@ -6,11 +6,11 @@ ghost use Rattle.gc_model.specs.Table.{Table};
 ghost use Rattle.gc_commands.specs.declared.command.Operand.{Operand};
 ghost use Rattle.gc_store.specs.Values.{NamesLive};
 ghost use Rattle.gc_values.specs.RawValues.{raw_handle};
-ghost use Rattle.gc_script.specs.State.{State, Held, Stands};
+ghost use Rattle.gc_script.specs.State.{State, Held, RegisterStands};
 ghost use Rattle.gc_script.specs.Given.{held_operand, given_held};
 ghost use Rattle.gc_script.specs.Values.{HoldsOperand, raw_operand, set_operand, set_operands, HasUnset, AreSet, AllHeld};
-ghost use Rattle.gc_script.specs.Values.{raw_slot, TellsHandle, is_opaque, AllPlain, IsFound, CanStoreAs, AllStorable};
-ghost use Rattle.gc_script.specs.Values.{ChecksValue, ChecksValues};
+ghost use Rattle.gc_script.specs.Values.{raw_slot, TellsHandle, is_opaque, AllPlain, IsFoundLive, CanStoreRaw, AllRawStorable};
+ghost use Rattle.gc_script.specs.Values.{ChecksOperand, ChecksOperands};
 
 use crate::fits::fits;
 use crate::objects::{ValueTypes, type_at};
@@ -77,16 +77,6 @@ pub(crate) fn give_values(
     Ok(())
 }
 
-/// The handle that a value is, where it is one.
-pub(crate) fn handle_of(value: &RawValue) -> Option<GcRootIndex>
-    ensures { result ≡ raw_handle value.now }
-{
-    match value {
-        RawValue::Ref(_, handle) => *handle,
-        _ => None,
-    }
-}
-
 /// The class and the handle of a value, where it is a reference.
 pub(crate) fn slot_of(value: &RawValue) -> Option<(GcClass, Option<GcRootIndex>)>
     ensures { result ≡ raw_slot value.now }
@@ -113,10 +103,10 @@ fn named_by<H: GcHeap>(
     ensures live { OnOk result (NamesLive ℕ H.KIND store.now value.now) }
     ensures plain { OnOk result (is_opaque value.now ≡ false) }
     ensures tells { IfOk result (λ object. (t : Table ℕ) → HoldsTable H.KIND store.now t → TellsHandle store.now t (raw_handle value.now) object) }
-    ensures found { (t : Table ℕ) (held : Option Held) → HoldsTable H.KIND store.now t → Stands store.now t (Some value.now) held
-        → IsFound store.now t value.now (given_held t held) (is_ok result) }
+    ensures found { (t : Table ℕ) (held : Option Held) → HoldsTable H.KIND store.now t → RegisterStands store.now t (Some value.now) held
+        → IsFoundLive store.now t value.now (given_held t held) (is_ok result) }
 {
-    match handle_of(value) {
+    match value.handle() {
         Some(handle) => match store.object(handle) {
             Ok(object) => Ok(Some(object)),
             Err(_) => Err(Refusal::Unrooted),
@@ -135,8 +125,8 @@ fn named_by<H: GcHeap>(
 pub(crate) fn is_live<H: GcHeap>(store: &Store<H, u64>, value: &RawValue) -> bool
     ensures live { IsTrue result → NamesLive ℕ H.KIND store.now value.now }
     ensures plain { IsTrue result → is_opaque value.now ≡ false }
-    ensures found { (t : Table ℕ) (held : Option Held) → HoldsTable H.KIND store.now t → Stands store.now t (Some value.now) held
-        → IsFound store.now t value.now (given_held t held) result }
+    ensures found { (t : Table ℕ) (held : Option Held) → HoldsTable H.KIND store.now t → RegisterStands store.now t (Some value.now) held
+        → IsFoundLive store.now t value.now (given_held t held) result }
 {
     named_by(store, value).is_ok()
 }
@@ -148,10 +138,10 @@ pub(crate) fn check_value<H: GcHeap>(
     field: Option<FieldType>,
     value: &RawValue,
 ) -> Result<(), Refusal>
-    ensures stores { OnOk result (CanStoreAs H.KIND store.now field value.now) }
+    ensures stores { OnOk result (CanStoreRaw H.KIND store.now field value.now) }
     ensures plain { OnOk result (is_opaque value.now ≡ false) }
-    ensures checks { (s : State) (v : Operand) → HoldsTable H.KIND store.now s.table → Stands store.now s.table (Some value.now) (held_operand s v)
-        → ChecksValue store.now s field v value.now result }
+    ensures checks { (s : State) (v : Operand) → HoldsTable H.KIND store.now s.table → RegisterStands store.now s.table (Some value.now) (held_operand s v)
+        → ChecksOperand store.now s field v value.now result }
 {
     let Ok(object) = named_by(store, value) else {
         return Err(Refusal::Unrooted);
@@ -175,10 +165,10 @@ pub(crate) fn check_operands<H: GcHeap>(
     types: &ValueTypes,
     operands: &[Operand],
 ) -> Result<(), Refusal>
-    ensures stores { OnOk result (AllStorable H.KIND store.now types.now (set_operands registers.now operands.now)) }
+    ensures stores { OnOk result (AllRawStorable H.KIND store.now types.now (set_operands registers.now operands.now)) }
     ensures plain { OnOk result (AllPlain (set_operands registers.now operands.now)) }
     ensures checks { (s : State) (vs : List Operand) → HoldsTable H.KIND store.now s.table → AllHeld store.now s vs (set_operands registers.now operands.now)
-        → ChecksValues store.now s types.now vs (set_operands registers.now operands.now) result }
+        → ChecksOperands store.now s types.now vs (set_operands registers.now operands.now) result }
 {
     for (index, operand) in operands.iter().enumerate() {
         let value = value_or_null(registers, operand);

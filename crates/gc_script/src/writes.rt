@@ -6,11 +6,11 @@ ghost use Rattle.gc_commands.specs.declared.command.Operand.{Operand};
 ghost use Rattle.gc_model.specs.Holds.{HoldsTable};
 ghost use Rattle.gc_model.specs.Table.{Table};
 ghost use Rattle.gc_policy.specs.Accounts.{Account, HoldsAccount};
-ghost use Rattle.gc_script.specs.State.{State, HoldsState, Stands};
+ghost use Rattle.gc_script.specs.State.{State, HoldsState, RegisterStands};
 ghost use Rattle.gc_script.specs.Given.{held_operand, is_constant};
 ghost use Rattle.gc_script.specs.Run.{GoesOn};
-ghost use Rattle.gc_script.specs.Named.{type_at, IsNamed};
-ghost use Rattle.gc_script.specs.Values.{is_opaque, CanStoreAs};
+ghost use Rattle.gc_script.specs.Named.{type_at, IsNamedSomewhere};
+ghost use Rattle.gc_script.specs.Values.{is_opaque, CanStoreRaw};
 ghost use Rattle.gc_script.specs.Writing.{ChecksWrite, FindsWritten};
 ghost use Rattle.gc_store.specs.Stores.{IsSameStore};
 ghost use Rattle.gc_store.specs.Values.{CanWrite, KeepsValue};
@@ -46,9 +46,9 @@ fn check_write<H: GcHeap>(
     written: &Written,
     index: u32,
 ) -> Result<(), Refusal>
-    ensures stores { OnOk result (CanStoreAs H.KIND store.now (type_at store.now.types written.now.object.types index) written.now.value) }
+    ensures stores { OnOk result (CanStoreRaw H.KIND store.now (type_at store.now.types written.now.object.types index) written.now.value) }
     ensures plain { OnOk result (is_opaque written.now.value ≡ false) }
-    ensures checks { (s : State) (v : Operand) → HoldsTable H.KIND store.now s.table → Stands store.now s.table (Some written.now.value) (held_operand s v)
+    ensures checks { (s : State) (v : Operand) → HoldsTable H.KIND store.now s.table → RegisterStands store.now s.table (Some written.now.value) (held_operand s v)
         → ChecksWrite store.now s (type_at s.table.types written.now.object.types index) v written.now.value result }
 {
     let field = type_at(store, &written.object.types, index as usize);
@@ -82,7 +82,7 @@ impl Runner {
         r: u16,
         operand: &Operand,
     ) -> Result<Written, Refusal>
-        ensures named { IfOk result (λ found. IsNamed H.KIND store.now wanted found.object) }
+        ensures named { IfOk result (λ found. IsNamedSomewhere H.KIND store.now wanted found.object) }
         ensures finds { (s : State) → HoldsState H.KIND store.now self.now s → FindsWritten store.now s wanted r operand.now result }
     {
         let target = match self.registers.get(r) {

@@ -12,7 +12,7 @@ use Rattle.gc_policy.specs.Shown.{shown}
 use Rattle.gc_policy.proofs.RootsShown.{SlotsInFrames}
 use Rattle.gc_policy.proofs.AccountLemmas.{collected_account, some_account}
 use Rattle.gc_store.specs.Expansion.{CollectsStore}
-use Rattle.gc_store.specs.Stores.{IsSound}
+use Rattle.gc_store.specs.Stores.{IsSoundStore}
 use Rattle.gc_values.proofs.Keeping.{keeps-collected}
 use Rattle.gc_store.proofs.Expanding.{sound_again}
 
@@ -21,7 +21,7 @@ abbrev unasked : Limits
 unasked = record { limit = None; refusals = 0; last_refused = None }
 
 module _ {D : Type 0} (layouts : Layouts) (s : StoreView D) (v w : OwnerView D) (in_frames : SlotsInFrames v.roots) (attached : v.heap.attached ≡ true) (collects : Collects layouts v w) where
-  pub sound_collected : (counts : List ℕ) → IsSound D layouts counts v (shown s v) → IsSound D layouts counts w (shown s w)
+  pub sound_collected : (counts : List ℕ) → IsSoundStore D layouts counts v (shown s v) → IsSoundStore D layouts counts w (shown s w)
   sound_collected counts sound =
       let is = collected_account layouts s sound.table sound.account unasked v w sound.holds in_frames attached collects in
       sound_again layouts s v w is.after.table is.after.account counts sound (keeps-collected layouts v w collects) is.holds

@@ -9,7 +9,7 @@ use Rattle.gc_model.specs.Stores.{StoreView}
 use Rattle.gc_owner.specs.declared.pages.PagesFault.{PagesFault}
 use Rattle.gc_owner.specs.declared.pages.PagesFault.TheVariants as pages_fault
 use Rattle.gc_owner.specs.Owners.{OwnerView}
-use Rattle.gc_owner.specs.Growing.{OwnerState, Begins, Grows, Expands}
+use Rattle.gc_owner.specs.Growing.{OwnerState, BeginsHeap, GrowsReadied, Expands}
 use Rattle.gc_policy.specs.Accounts.{Account, HoldsAccount}
 use Rattle.gc_policy.specs.Policy as policy
 use Rattle.gc_policy.specs.Policy.{PolicyState, table_after}
@@ -21,11 +21,11 @@ use Rattle.gc_store.specs.declared.grow.GrowFault.{GrowFault}
 use Rattle.gc_store.specs.declared.grow.GrowFault.TheVariants as fault
 use Rattle.gc_store.specs.Expansion.{GrowsStore, ExpandsStore}
 use Rattle.gc_store.specs.Places.{MayGetPages}
-use Rattle.gc_store.specs.Stores.{IsSound}
+use Rattle.gc_store.specs.Stores.{IsSoundStore}
 use Rattle.gc_values.proofs.Keeping.{Keeps, keeps-trans, keeps-begins, keeps-readies, keeps-grows}
 
 -- a store is sound again where it holds a table
-pub sound_again : {D : Type 0} (layouts : Layouts) (s : StoreView D) (v w : OwnerView D) (t : Table D) (a : Account) (counts : List ℕ) → IsSound D layouts counts v (shown s v) → Keeps v w → HoldsAccount layouts (shown s w) t a → IsSound D layouts counts w (shown s w)
+pub sound_again : {D : Type 0} (layouts : Layouts) (s : StoreView D) (v w : OwnerView D) (t : Table D) (a : Account) (counts : List ℕ) → IsSoundStore D layouts counts v (shown s v) → Keeps v w → HoldsAccount layouts (shown s w) t a → IsSoundStore D layouts counts w (shown s w)
 sound_again layouts s v w t a counts sound keeps holds = record {
   idle = keeps.idle ∙ sound.idle;
   engine = ap (λ (x : TypeTable). x.engine) keeps.types ∙ sound.engine;
@@ -52,11 +52,11 @@ answer_of (Err pages_fault.Memory) = Err fault.Memory
 -- what a growth leaves of the store
 pub record FollowsExpansion {D : Type 0} (layouts : Layouts) (s : StoreView D) (bytes : ℕ) (e : OwnerState D) (p : PolicyState D) (r : Result (Unit {0}) PagesFault) (counts : List ℕ) : Type 0 where
   pub grows : GrowsStore layouts bytes p e.limits (answer_of r) (shown s e.owner)
-  pub sound : IsSound D layouts counts e.owner (shown s e.owner)
+  pub sound : IsSoundStore D layouts counts e.owner (shown s e.owner)
 
-module _ {D : Type 0} (layouts : Layouts) (s : StoreView D) (h : OwnerState D) (p : PolicyState D) (shows : Shows layouts s h p) (counts : List ℕ) (sound : IsSound D layouts counts h.owner (shown s h.owner)) (bytes : ℕ) (some : 0 < bytes) (e : OwnerState D) where
+module _ {D : Type 0} (layouts : Layouts) (s : StoreView D) (h : OwnerState D) (p : PolicyState D) (shows : Shows layouts s h p) (counts : List ℕ) (sound : IsSoundStore D layouts counts h.owner (shown s h.owner)) (bytes : ℕ) (some : 0 < bytes) (e : OwnerState D) where
   -- the heap was made, and its growth granted or refused
-  grown : (b : OwnerState D) (ok : Bool) → Begins layouts s.first h b → Grows layouts bytes b ok e → ExpandsStore layouts bytes p e.limits ok (shown s e.owner) × IsSound D layouts counts e.owner (shown s e.owner)
+  grown : (b : OwnerState D) (ok : Bool) → BeginsHeap layouts s.first h b → GrowsReadied layouts bytes b ok e → ExpandsStore layouts bytes p e.limits ok (shown s e.owner) × IsSoundStore D layouts counts e.owner (shown s e.owner)
   grown b ok begins grew =
       let making = making_follows layouts s h p shows b begins in
       let grown = growth_follows layouts s bytes b making.after making.agrees ok e grew in
@@ -77,8 +77,8 @@ module _ {D : Type 0} (layouts : Layouts) (s : StoreView D) (h : OwnerState D) (
   same_holds : e.owner ≡ h.owner → HoldsAccount layouts (shown s e.owner) p.table p.account
   same_holds is = subst (λ (v : OwnerView D). HoldsAccount layouts (shown s v) p.table p.account) (sym is) shows.holds
 
-  same_sound : e.owner ≡ h.owner → IsSound D layouts counts e.owner (shown s e.owner)
-  same_sound is = subst (λ (v : OwnerView D). IsSound D layouts counts v (shown s v)) (sym is) sound
+  same_sound : e.owner ≡ h.owner → IsSoundStore D layouts counts e.owner (shown s e.owner)
+  same_sound is = subst (λ (v : OwnerView D). IsSoundStore D layouts counts v (shown s v)) (sym is) sound
 
   pub expansion_follows : (r : Result (Unit {0}) PagesFault) → Expands layouts s.first bytes h e r → FollowsExpansion layouts s bytes e p r counts
   expansion_follows (Ok done) (b, (begins, grew)) = let both = grown b true begins grew in record { grows = both.0; sound = both.1 }

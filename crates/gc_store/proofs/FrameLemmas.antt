@@ -31,7 +31,7 @@ use Rattle.gc_values.specs.declared.engine.StoreId.{StoreId}
 use Rattle.gc_values.specs.declared.root.GcRootIndex.{GcRootIndex}
 use Rattle.gc_store.specs.Roots.{IsRootWord}
 use Rattle.gc_store.specs.Slots.{FindsWord}
-use Rattle.gc_store.specs.Stores.{StoreTables, store_view, IsSound}
+use Rattle.gc_store.specs.Stores.{StoreTables, store_view, IsSoundStore}
 use Rattle.gc_values.specs.SlotCounts.{slot_counts}
 use Rattle.gc_store.proofs.SlotLemmas.{entry_of}
 
@@ -88,7 +88,7 @@ module _ {D : Type 0} (layouts : Layouts) (id : StoreId) (config : HeapConfig) (
           account = account_kept before _ holds.place a refl refl refl holds.account;
         })
 
-    pub sound_frame_pushed : (counts counts' : List ℕ) → counts' ≡ counts ++ count ∷ [] → IsSound D layouts counts old before → IsSound D layouts counts' new after
+    pub sound_frame_pushed : (counts counts' : List ℕ) → counts' ≡ counts ++ count ∷ [] → IsSoundStore D layouts counts old before → IsSoundStore D layouts counts' new after
     sound_frame_pushed counts counts' more sound = record {
       idle = ap (λ (v : OwnerView D). v.idle) is ∙ sound.idle;
       engine = ap (λ (v : OwnerView D). v.types.engine) is ∙ sound.engine;
@@ -116,7 +116,7 @@ module _ {D : Type 0} (layouts : Layouts) (id : StoreId) (config : HeapConfig) (
       }),
     )
 
-    pub sound_frame_popped : (counts counts' : List ℕ) (last : Option ℕ) → counts ≡ counts' ++ option_to_list last → (0 < length counts → IsSome last) → IsSound D layouts counts old before → IsSound D layouts counts' new after
+    pub sound_frame_popped : (counts counts' : List ℕ) (last : Option ℕ) → counts ≡ counts' ++ option_to_list last → (0 < length counts → IsSome last) → IsSoundStore D layouts counts old before → IsSoundStore D layouts counts' new after
     sound_frame_popped counts counts' last split variant sound = record {
       idle = ap (λ (v : OwnerView D). v.idle) is ∙ sound.idle;
       engine = ap (λ (v : OwnerView D). v.types.engine) is ∙ sound.engine;
@@ -154,7 +154,7 @@ module _ {D : Type 0} (layouts : Layouts) (id : StoreId) (config : HeapConfig) (
           account = account_kept before _ place a refl refl changes.held.needs_gc account;
         })
 
-    pub sound_slot_set : (counts : List ℕ) (handle : Option GcRootIndex) (sound : IsSound D layouts counts old before) → FindsWord before sound.table sound.holds.place handle (Ok word) → IsSound D layouts counts new after
+    pub sound_slot_set : (counts : List ℕ) (handle : Option GcRootIndex) (sound : IsSoundStore D layouts counts old before) → FindsWord before sound.table sound.holds.place handle (Ok word) → IsSoundStore D layouts counts new after
     sound_slot_set counts handle sound finds = record {
       idle = ap (λ (v : OwnerView D). v.idle) changes.rest ∙ sound.idle;
       engine = ap (λ (v : OwnerView D). v.types.engine) changes.rest ∙ sound.engine;
@@ -206,7 +206,7 @@ module _ {D : Type 0} (layouts : Layouts) (s : StoreView D) (t : Table D) (place
   pub slot_found : (found : Bool) → found ≡ nat_lt index (length (newest s.frames)) → found ≡ true → (slot : Slot) × (slot_at t index ≡ Some slot)
   slot_found found is there =
       let within : index < length (newest t.frames) = omega (arith, found_within s s index found refl is there, (newest-stand place t.frames s.frames holds.frames).same_count) in
-      (slice_index_or (newest t.frames) index table.empty_slot, slice_get-get_or (newest t.frames) index table.empty_slot within)
+      (slice_index_or (newest t.frames) index table.null_slot, slice_get-get_or (newest t.frames) index table.null_slot within)
 
   pub slot_missing : (found : Bool) → found ≡ nat_lt index (length (newest s.frames)) → found ≡ false → slot_at t index ≡ None
   slot_missing found is not_found = elim ((slice_get_cases (newest t.frames) index).1) [

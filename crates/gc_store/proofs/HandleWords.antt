@@ -20,7 +20,7 @@ use Rattle.gc_values.specs.declared.root.RootSlot.{RootSlot}
 use Rattle.gc_values.specs.declared.root.RootSlot.TheVariants as slot
 use Rattle.gc_values.specs.declared.root.RootFault.{RootFault}
 use Rattle.gc_values.specs.declared.root.RootFault.TheVariants as fault
-use Rattle.gc_store.specs.Roots.{Names, word_of, is_of_store, owned_handle, NamesReference, NamesScoped, NamesOwned, NamesNothing, IsRootWord}
+use Rattle.gc_store.specs.Roots.{NamesSerial, word_of, is_of_store, owned_handle, NamesReference, NamesScoped, NamesOwned, NamesNothing, IsRootWord}
 use Rattle.gc_store.specs.Slots.{FindsWord}
 use Rattle.gc_values.specs.Words.{word_at, entry_word, owned_word, owned_at, owned_id}
 use Rattle.gc_values.proofs.OwnedWords.{owned_here, owned_there, owned_word-ok, owned_word-err, tested-ok}
@@ -52,7 +52,7 @@ pub owned-of_store : {D : Type 0} (s : StoreView D) (number : ℕ) → is_of_sto
 owned-of_store s number = grind (arith, common_steps)
 
 -- the handle of a push is the store's
-pub names-store : {D : Type 0} (s : StoreView D) (t : Table D) (handle : GcRootIndex) (serial : ℕ) → Names s t handle serial → is_of_store s handle ≡ true
+pub names-store : {D : Type 0} (s : StoreView D) (t : Table D) (handle : GcRootIndex) (serial : ℕ) → NamesSerial s t handle serial → is_of_store s handle ≡ true
 names-store s t handle serial names = ap (is_of_store s) names.is ∙ grind (arith, common_steps)
 
 -- a handle that names something is the store's

@@ -14,7 +14,7 @@ use Rattle.gc_policy.proofs.AccountLemmas.{account_kept}
 use Rattle.gc_values.specs.declared.engine.StoreId.{StoreId}
 use Rattle.gc_values.specs.declared.config.HeapConfig.{HeapConfig}
 use Rattle.gc_store.specs.HostSteps.{HasHostId}
-use Rattle.gc_store.specs.Stores.{StoreTables, store_view, IsSound}
+use Rattle.gc_store.specs.Stores.{StoreTables, store_view, IsSoundStore}
 
 -- with the value set, the store holds the table with the value set, and the account that it had
 pub host_set : {D : Type 0} (layouts : Layouts) (s : StoreView D) (t : Table D) (place : Placing) (a : Account) → Holds layouts s t place → IsAccount layouts s place a → (position id : ℕ) (d w : D) → IsHostAt t.objects place s.heap.content position id d
@@ -35,8 +35,8 @@ named_set {D} layouts s t a p old w id holds in_table has =
     position_is : {q : ℕ} → at p ≡ at q → p ≡ q
     position_is is = cc is
 
-pub sound_host_set : {D : Type 0} (layouts : Layouts) (counts : List ℕ) (id : StoreId) (config : HeapConfig) (tables : StoreTables) (v : OwnerView D) (tries host_id : ℕ) (d w : D) → get v.hosts host_id ≡ Some d → IsSound D layouts counts v (store_view id config tables v tries)
-    → IsSound D layouts counts (record v { hosts = insert v.hosts host_id w }) (store_view id config tables (record v { hosts = insert v.hosts host_id w }) tries)
+pub sound_host_set : {D : Type 0} (layouts : Layouts) (counts : List ℕ) (id : StoreId) (config : HeapConfig) (tables : StoreTables) (v : OwnerView D) (tries host_id : ℕ) (d w : D) → get v.hosts host_id ≡ Some d → IsSoundStore D layouts counts v (store_view id config tables v tries)
+    → IsSoundStore D layouts counts (record v { hosts = insert v.hosts host_id w }) (store_view id config tables (record v { hosts = insert v.hosts host_id w }) tries)
 sound_host_set layouts counts id config tables v tries host_id d w there sound =
     let entry = sound.holds.holds.hosts.only host_id d there in
     record {

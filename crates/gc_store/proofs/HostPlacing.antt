@@ -30,7 +30,7 @@ use Rattle.gc_owner.specs.Owners.{OwnerView, CanBegin}
 use Rattle.gc_owner.specs.Growing.{OwnerState, state_of, owner_rules}
 use Rattle.gc_owner.specs.Retry.{Paused, at_first}
 use Rattle.gc_owner.specs.HostValues.{with_host}
-use Rattle.gc_owner.specs.HostValues.{PlacesHost as OwnerPlaces}
+use Rattle.gc_owner.specs.HostValues.{PlacesExternal as OwnerPlaces}
 use Rattle.gc_policy.specs.Accounts.{Account, HoldsAccount, is_due, with_held}
 use Rattle.gc_policy.specs.HostMaking.{MadeHost}
 use Rattle.gc_policy.specs.Policy.{policy_state}
@@ -45,7 +45,7 @@ use Rattle.gc_store.specs.declared.hosts.PlaceHostFault.TheVariants as fault
 use Rattle.gc_values.specs.declared.root.GcRootIndex.{GcRootIndex}
 use Rattle.gc_values.specs.declared.root.RootSlot.TheVariants as slot
 use Rattle.gc_store.specs.HostPlaces.{PlacesHost}
-use Rattle.gc_store.specs.HostSteps.{AllocatesHost, MakesHost}
+use Rattle.gc_store.specs.HostSteps.{AllocatesRootedHost, MakesRootedHost}
 use Rattle.gc_store.specs.Places.{HasIds}
 use Rattle.gc_values.specs.Making.{BeginsMaking}
 use Rattle.gc_values.proofs.Keeping.{counts_of, Keeps, keeps-trans, keeps-making, keeps-retried, keeps-paused, same_count}
@@ -53,16 +53,16 @@ use Rattle.gc_store.proofs.Preparing.{IsReadyStore, lacks_room, lacks_pages, wan
 
 -- a refusal of the owner, which handed the value back
 pub allocates_lacking : {D : Type 0} (layouts : Layouts) (value : D) (s e : OwnerState D) → IsHeap layouts s.owner.heap → CanBegin layouts s.owner → (back : D) (need : ℕ) → OwnerPlaces layouts value s e (Err (owner_fault.HeapOutOfMemory back need))
-    → AllocatesHost layouts value s e (Err (fault.HeapOutOfMemory (record { inner = back; bytes_needed = need })))
+    → AllocatesRootedHost layouts value s e (Err (fault.HeapOutOfMemory (record { inner = back; bytes_needed = need })))
 allocates_lacking layouts value s e heap can back need is = (is.0, taken_lacks layouts value s heap can e need is.1)
 
 -- and its want of memory
-pub allocates_wanting : {D : Type 0} (layouts : Layouts) (value : D) (s e : OwnerState D) → IsHeap layouts s.owner.heap → CanBegin layouts s.owner → (back : D) → OwnerPlaces layouts value s e (Err (owner_fault.Memory back)) → AllocatesHost layouts value s e (Err fault.Memory)
+pub allocates_wanting : {D : Type 0} (layouts : Layouts) (value : D) (s e : OwnerState D) → IsHeap layouts s.owner.heap → CanBegin layouts s.owner → (back : D) → OwnerPlaces layouts value s e (Err (owner_fault.Memory back)) → AllocatesRootedHost layouts value s e (Err fault.Memory)
 allocates_wanting {D} layouts value s e heap can back (handed, inl same) = subst (λ (x : OwnerState D). Paused (owner_rules layouts (external_size layouts)) s x) (sym same) at_first
 allocates_wanting layouts value s e heap can back (handed, inr taken) = taken_pauses layouts value s heap can e taken
 
 -- what allocating it answered, as what the whole does
-pub begun_answers : {D : Type 0} (layouts : Layouts) (value : D) (first : ℕ) (due : Bool) (s b e : OwnerState D) (r : Result ℕ (PlaceHostFault D)) → BeginsMaking layouts first due s b → AllocatesHost layouts value b e r → MakesHost layouts value first due s e r
+pub begun_answers : {D : Type 0} (layouts : Layouts) (value : D) (first : ℕ) (due : Bool) (s b e : OwnerState D) (r : Result ℕ (PlaceHostFault D)) → BeginsMaking layouts first due s b → AllocatesRootedHost layouts value b e r → MakesRootedHost layouts value first due s e r
 begun_answers layouts value first due s b e (Ok index) begins made = (b, (begins, made))
 begun_answers layouts value first due s b e (Err fault.RootsFull) begins made = made
 begun_answers layouts value first due s b e (Err (fault.HeapOutOfMemory f)) begins made = (made.0, inr (b, (begins, made.1)))
@@ -171,7 +171,7 @@ module _ {D : Type 0} (layouts : Layouts) (s : StoreView D) (v : OwnerView D) (v
       (ap (λ (x : OwnerView D). x.roots.generation) made.adds.rest) made.adds.index_is handle handle_is in
       record { places = places; table = _; account = _; holds = places.holds }
 
-  pub host_fault_follows : (f : PlaceHostFault D) → MakesHost layouts value s.first due (state_of v limits) e (Err f) → FollowsHost layouts s value t a limits e (Err f)
+  pub host_fault_follows : (f : PlaceHostFault D) → MakesRootedHost layouts value s.first due (state_of v limits) e (Err f) → FollowsHost layouts s value t a limits e (Err f)
   host_fault_follows fault.RootsFull makes = absurd makes
   host_fault_follows (fault.HeapOutOfMemory f) (back, inl (no_pages, asked)) =
       let places = lacks_pages layouts s v limits t a is due due_is (host value) size refl (host_small layouts) full no_more_ids e f.bytes_needed no_pages asked in
@@ -187,7 +187,7 @@ module _ {D : Type 0} (layouts : Layouts) (s : StoreView D) (v : OwnerView D) (v
       record { places = places; table = _; account = _; holds = places.holds }
 
   -- whichever it was, the store holds a table
-  pub host_leaves : (r : Result ℕ (PlaceHostFault D)) → MakesHost layouts value s.first due (state_of v limits) e r → (u : Table D) × ((b : Account) × HoldsAccount layouts (shown (counted_store s) e.owner) u b)
+  pub host_leaves : (r : Result ℕ (PlaceHostFault D)) → MakesRootedHost layouts value s.first due (state_of v limits) e r → (u : Table D) × ((b : Account) × HoldsAccount layouts (shown (counted_store s) e.owner) u b)
   host_leaves (Ok index) (b, (begins, made)) =
       let after = host_follows b index begins made (record { store_id = record { engine = s.engine; number = s.number }; generation = e.owner.roots.generation; slot = slot.Scoped index }) refl in
       (after.table, (after.account, after.holds))
@@ -207,7 +207,7 @@ kept_rest v w keeps = record { spare = (let kept = keeps.spare in let count = sa
 same_rest : {D : Type 0} (v w : OwnerView D) → w ≡ v → HostKeeps v w
 same_rest {D} v w same = record { spare = (let is = ap (λ (x : OwnerView D). x.roots.spare + length x.roots.scoped) same in omega (arith, is)); idle = ap (λ (x : OwnerView D). x.idle) same; types = ap (λ (x : OwnerView D). x.types) same; counts = ap counts_of same }
 
-pub host_keeps : {D : Type 0} (layouts : Layouts) (value : D) (first : ℕ) (due : Bool) (s e : OwnerState D) (r : Result ℕ (PlaceHostFault D)) → MakesHost layouts value first due s e r → HostKeeps s.owner e.owner
+pub host_keeps : {D : Type 0} (layouts : Layouts) (value : D) (first : ℕ) (due : Bool) (s e : OwnerState D) (r : Result ℕ (PlaceHostFault D)) → MakesRootedHost layouts value first due s e r → HostKeeps s.owner e.owner
 host_keeps {D} layouts value first due s e (Ok index) (b, (begins, made)) =
     let keeps : Keeps s.owner made.mid.owner = keeps-trans s.owner b.owner made.mid.owner (keeps-making layouts first due s b begins) (keeps-retried layouts (external_size layouts) b true made.mid made.retried) in
     let kept = keeps.spare in

@@ -10,7 +10,7 @@ use Rattle.gc_heap.specs.Content.{IsHeap}
 use Rattle.gc_heap.specs.Collection.{Start, IsIncrements}
 use Rattle.gc_heap.specs.declared.collection.GcProgress.{GcProgress}
 use Rattle.gc_heap.specs.declared.collection.GcProgress.TheVariants as progress
-use Rattle.gc_owner.specs.Owners.{OwnerValue, OwnerView, Kind, IsUnderWay, Increments, IsEnded, Trims, Collects, start_of}
+use Rattle.gc_owner.specs.Owners.{OwnerValue, OwnerView, Kind, IsOwnerUnderWay, Increments, IsEnded, Trims, Collects, start_of}
 use Rattle.gc_policy.specs.Shown.{shown}
 use Rattle.gc_policy.proofs.RootsShown.{SlotsInFrames}
 use Rattle.gc_policy.proofs.ReachedNumber.{reached, reached_number, few_reached, places_number}
@@ -18,7 +18,7 @@ use Rattle.gc_store.specs.IncrementCounts.{increments, increments_where, TakesIn
 
 -- A collection that is dropped after an increment has ended: it was complete, or the rest was done.
 pub dropped_ended : {H S D : Type 0} (k : Kind H S) (s : Start) (done : ℕ) (begun now last : OwnerValue H S D) (answer : GcProgress) → Increments k s done begun now answer → (answer ≡ progress.Complete → now.seen.idle ≡ true)
-    → (now.seen.idle ≡ true → last ≡ now) → (IsUnderWay k s done false begun now → IsEnded k.layouts begun last) → IsEnded k.layouts begun last
+    → (now.seen.idle ≡ true → last ≡ now) → (IsOwnerUnderWay k s done false begun now → IsEnded k.layouts begun last) → IsEnded k.layouts begun last
 dropped_ended {H} {S} {D} k s done begun now last progress.Complete did idle same ended = subst (λ (o : OwnerValue H S D). IsEnded k.layouts begun o) (sym (same (idle refl))) did.1
 dropped_ended k s done begun now last progress.Continue did idle same ended = ended did.1
 

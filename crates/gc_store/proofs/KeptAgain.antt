@@ -14,7 +14,7 @@ use Rattle.gc_values.specs.declared.root.RootSlot.TheVariants as slot
 use Rattle.gc_values.specs.declared.root.RootFault.TheVariants as fault
 use Rattle.gc_values.specs.declared.stored.Stored.{Stored}
 use Rattle.gc_values.specs.declared.stored.Stored.TheVariants as stores
-use Rattle.gc_values.specs.Kept.{IsKept, KeptAs, KeptStands}
+use Rattle.gc_values.specs.Kept.{CanBeKept, KeptAs, KeptStands}
 use Rattle.gc_values.specs.Words.{HandleRoots, root_word_at, entry_word, owned_id, owned_word, owned_at}
 use Rattle.gc_values.specs.RawValues.{raw_side_values}
 use Rattle.gc_values.proofs.GivenValues.{HaveAllIds}
@@ -72,7 +72,7 @@ rooted_again roots roots' (raw.Ref class None) same keeps is = tt
 rooted_again roots roots' (raw.Ref class (Some handle)) same keeps is = slot_again roots roots' handle.slot handle.generation is.0 same keeps is.1
 
 -- such a value is kept, where it has an id if it is a function value or a continuation
-pub rooted_kept : (ids : InternedIds) (roots : HandleRoots) (r : RawValue) → HaveAllIds ids (raw_side_values (r ∷ [])) → IsRooted roots r → IsKept ids roots r
+pub rooted_kept : (ids : InternedIds) (roots : HandleRoots) (r : RawValue) → HaveAllIds ids (raw_side_values (r ∷ [])) → IsRooted roots r → CanBeKept ids roots r
 rooted_kept ids roots (raw.I32 n) have is = (stores.Number (cast_unsigned w32 n), refl)
 rooted_kept ids roots (raw.I64 n) have is = (stores.Number (cast_unsigned w64 n), refl)
 rooted_kept ids roots (raw.F32 n) have is = (stores.Number n, refl)

@@ -15,7 +15,7 @@ use Rattle.gc_policy.proofs.AccountLemmas.{account_kept}
 use Rattle.gc_values.specs.declared.config.HeapConfig.{HeapConfig}
 use Rattle.gc_values.specs.declared.engine.StoreId.{StoreId}
 use Rattle.gc_store.specs.OwnedWords.{HoldsThere}
-use Rattle.gc_store.specs.Stores.{StoreTables, store_view, IsSound}
+use Rattle.gc_store.specs.Stores.{StoreTables, store_view, IsSoundStore}
 use Rattle.gc_values.proofs.Keeping.{counts_of}
 
 -- scope ends are counted alike by the owner and by the table
@@ -54,7 +54,7 @@ module _ {D : Type 0} (layouts : Layouts) (id : StoreId) (config : HeapConfig) (
         account_kept before (without_roots new.heap mark before) place a refl refl changes.held.needs_gc there.1,
       )
 
-  pub sound_left : (counts : List ℕ) → IsSound D layouts counts old before → IsSound D layouts counts new (store_view id config tables new tries)
+  pub sound_left : (counts : List ℕ) → IsSoundStore D layouts counts old before → IsSoundStore D layouts counts new (store_view id config tables new tries)
   sound_left counts sound = record {
     idle = ap (λ (v : OwnerView D). v.idle) changes.rest ∙ sound.idle;
     engine = ap (λ (v : OwnerView D). v.types.engine) changes.rest ∙ sound.engine;

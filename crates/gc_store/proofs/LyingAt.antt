@@ -27,28 +27,28 @@ use Rattle.gc_store.specs.Roots.{word_of, HasValue}
 use Rattle.gc_values.specs.declared.slot.Slot.{Slot}
 use Rattle.gc_values.specs.declared.stored.Found.{Found}
 use Rattle.gc_values.specs.Kept.{FitsForm, FoundStands, IsFound}
-use Rattle.gc_values.specs.HeldSlots.{FindsAt, FindsHeldSlot, FitsAt, HasShape, IsHeldOf, IsHeldWithSlot, storage_slot}
+use Rattle.gc_values.specs.HeldSlots.{FindsAt, FindsHeldSlot, FitsAt, HasHeapShape, IsHeldOf, IsHeldWithSlot, storage_slot}
 use Rattle.gc_values.proofs.SlotPlaces.{bytes_reach, slot_lies, held_size_is, held_small, readable}
 use Rattle.gc_store.proofs.HandleWords.{named_word, never_gone}
 
 -- An object of a heap has the shape of the one that it stands for.
 
-is_struct : (h : HeapObject) (shape : Shape) (n : ℕ) → h.kind ≡ StructRef → shape_kind shape ≡ kinds.Struct → HasShape h shape n
+is_struct : (h : HeapObject) (shape : Shape) (n : ℕ) → h.kind ≡ StructRef → shape_kind shape ≡ kinds.Struct → HasHeapShape h shape n
 is_struct h (struct_of fields) n is of_kind = is
 is_struct h _ n is of_kind = absurd (cc)
 
-is_array : (h : HeapObject) (shape : Shape) (n : ℕ) → h.kind ≡ ArrayRef → n ≡ array_length h → shape_kind shape ≡ kinds.Array → HasShape h shape n
+is_array : (h : HeapObject) (shape : Shape) (n : ℕ) → h.kind ≡ ArrayRef → n ≡ array_length h → shape_kind shape ≡ kinds.Array → HasHeapShape h shape n
 is_array h (array_of element) n is count of_kind = (is, count)
 is_array h _ n is count of_kind = absurd (cc)
 
-is_exn : (h : HeapObject) (shape : Shape) (n : ℕ) → h.kind ≡ ExnRef → shape_kind shape ≡ kinds.Exn → HasShape h shape n
+is_exn : (h : HeapObject) (shape : Shape) (n : ℕ) → h.kind ≡ ExnRef → shape_kind shape ≡ kinds.Exn → HasHeapShape h shape n
 is_exn h (exn_of params) n is of_kind = is
 is_exn h _ n is of_kind = absurd (cc)
 
 -- What stands for an object with values: its shape, and that it has it.
 record ShapeOf {D : Type 0} (layouts : Layouts) (types : List Declaration) (names : Naming) (o : Object D) (h : HeapObject) : Type 0 where
   by : StandsByShape layouts types names o h
-  has : HasShape h by.stands.shape by.stands.count
+  has : HasHeapShape h by.stands.shape by.stands.count
 
 shape_of : {D : Type 0} (layouts : Layouts) (types : List Declaration) (names : Naming) (o : Object D) (h : HeapObject) → ¬ IsHost (Some o) → Stands layouts types names o h → ShapeOf layouts types names o h
 shape_of layouts types names (struct ty values) h not_host is = record {

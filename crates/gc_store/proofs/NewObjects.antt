@@ -28,7 +28,7 @@ use Rattle.gc_model.proofs.ObjectShapes.{shape_at, struct_shape, array_shape}
 use Rattle.gc_values.specs.declared.request.Place.{Place}
 use Rattle.gc_values.specs.declared.request.Place.TheVariants as place
 use Rattle.gc_values.specs.Filling.{AreBlank, asked_type, IsOfAskedKind}
-use Rattle.gc_values.specs.HeldSlots.{HasShape}
+use Rattle.gc_values.specs.HeldSlots.{HasHeapShape}
 use Rattle.gc_values.specs.Making.{IsSizeOf, described_by}
 use Rattle.gc_values.proofs.ShapeSlots.{laid_out}
 
@@ -51,7 +51,7 @@ pub record IsNew (D : Type 0) (layouts : Layouts) (types : List Declaration) (re
   pub count : ℕ
   pub blank : HeapObject
   pub of_type : blank.ty ≡ asked_type request
-  pub has : HasShape blank shape count
+  pub has : HasHeapShape blank shape count
   pub is_size : IsSizeOf layouts types request (shape_size layouts shape count)
   pub stored : struct_base layouts + length blank.bytes ≡ stored_size layouts (shape_size layouts shape count)
   pub are_blank : AreBlank (struct_base layouts) (shape_slots layouts shape count) blank.bytes

@@ -20,14 +20,14 @@ use Rattle.gc_values.specs.declared.root.RootFault.{RootFault}
 use Rattle.gc_values.specs.declared.root.RootFault.TheVariants as fault
 use Rattle.gc_store.specs.OwnedRoots.{IsHandleOf, IsOfNone, ReleasesHandle}
 use Rattle.gc_store.specs.OwnedWords.{FindsHeldNumber, FindsHeld}
-use Rattle.gc_values.specs.Words.{owned_id, owned_at, FindsOwned, AreRising}
-use Rattle.gc_store.specs.Stores.{StoreTables, store_view, IsSound}
+use Rattle.gc_values.specs.Words.{owned_id, owned_at, FindsOwned, AreOwnedRising}
+use Rattle.gc_store.specs.Stores.{StoreTables, store_view, IsSoundStore}
 use Rattle.gc_store.proofs.HandleWords.{same_store}
 use Rattle.gc_values.proofs.Keeping.{counts_of}
 use Rattle.gc_values.proofs.OwnedWords.{owned_here, owned_place, same_item}
 
 -- one without handles is none that is sought
-pub unheld_none : (entries : List OwnedEntry) (number i : ℕ) → AreRising entries → FindsOwned entries number (Some i) → (get_or entries i empty_entry).handles ≡ 0 → FindsHeldNumber entries number None
+pub unheld_none : (entries : List OwnedEntry) (number i : ℕ) → AreOwnedRising entries → FindsOwned entries number (Some i) → (get_or entries i empty_entry).handles ≡ 0 → FindsHeldNumber entries number None
 unheld_none entries number i rising finds none = λ e c some same.
     let one : Some e ≡ Some (get_or entries i empty_entry) = sym (owned_here entries e rising c) ∙ ap (λ n. owned_at n entries) same ∙ owned_place entries number i rising finds in
     let is : e ≡ get_or entries i empty_entry = grind (arith, one) in
@@ -108,7 +108,7 @@ module _ {D : Type 0} (layouts : Layouts) (id : StoreId) (config : HeapConfig) (
       }))
 
   -- the store is sound where it holds some table so
-  pub sound_changed : (counts : List ℕ) (handles : ℕ) → new ≡ record old { roots = with_handle_count i handles old.roots } → IsSound D layouts counts old before → (t : Table D) (a : Account) → HoldsAccount layouts (store_view id config tables new tries) t a → IsSound D layouts counts new (store_view id config tables new tries)
+  pub sound_changed : (counts : List ℕ) (handles : ℕ) → new ≡ record old { roots = with_handle_count i handles old.roots } → IsSoundStore D layouts counts old before → (t : Table D) (a : Account) → HoldsAccount layouts (store_view id config tables new tries) t a → IsSoundStore D layouts counts new (store_view id config tables new tries)
   sound_changed counts handles rest sound t a holds = record {
     idle = ap (λ (v : OwnerView D). v.idle) rest ∙ sound.idle;
     engine = ap (λ (v : OwnerView D). v.types.engine) rest ∙ sound.engine;

@@ -32,7 +32,7 @@ use Rattle.gc_store.specs.Roots.{owned_handle, is_of_store, word_of, IsRootWord,
 use Rattle.gc_store.specs.OwnedRoots.{MakesOwned}
 use Rattle.gc_store.proofs.HandleWords.{word_of-wrong, names_nothing}
 use Rattle.gc_store.specs.OwnedWords.{HoldsThere, IsTrimmed, AddsOwned, OwnsWord, owned_is_full}
-use Rattle.gc_store.specs.Stores.{StoreTables, store_view, IsSound}
+use Rattle.gc_store.specs.Stores.{StoreTables, store_view, IsSoundStore}
 use Rattle.gc_values.proofs.Keeping.{counts_of}
 
 -- Lists of rising numbers, of which one has those of the other, are no longer
@@ -117,7 +117,7 @@ module _ {D : Type 0} (layouts : Layouts) (id : StoreId) (config : HeapConfig) (
   pub is_trimmed : IsTrimmed after
   is_trimmed = λ full. subst (λ (v : OwnerView D). (e : OwnedEntry) → Contains v.roots.owned e → 0 < e.handles) (sym trims.changes.rest) (trimmed_held old.roots.owned)
 
-  pub sound_trimmed : (counts : List ℕ) → IsSound D layouts counts old before → IsSound D layouts counts new after
+  pub sound_trimmed : (counts : List ℕ) → IsSoundStore D layouts counts old before → IsSoundStore D layouts counts new after
   sound_trimmed counts sound =
       let there = trimmed_there sound.table sound.holds.place sound.account (sound.holds.holds, sound.holds.account) in
       record {
@@ -147,7 +147,7 @@ module _ {D : Type 0} (layouts : Layouts) (id : StoreId) (config : HeapConfig) (
         account = account_kept store_before _ place a refl refl owns.held.needs_gc there.1;
       })
 
-  pub sound_owned : (counts : List ℕ) → IsSound D layouts counts old store_before → IsRootWord D layouts store_before word → IsSound D layouts counts new store_after
+  pub sound_owned : (counts : List ℕ) → IsSoundStore D layouts counts old store_before → IsRootWord D layouts store_before word → IsSoundStore D layouts counts new store_after
   sound_owned counts sound is = let own_one = own_account layouts store_before is.table is.place is.holds in record {
     idle = ap (λ (v : OwnerView D). v.idle) owns.rest ∙ sound.idle;
     engine = ap (λ (v : OwnerView D). v.types.engine) owns.rest ∙ sound.engine;
@@ -162,9 +162,9 @@ module _ {D : Type 0} (layouts : Layouts) (id : StoreId) (config : HeapConfig) (
 
 module _ {D : Type 0} (layouts : Layouts) (id : StoreId) (config : HeapConfig) (tables : StoreTables) (tries : ℕ) (old new : OwnerView D) (word : ℕ) where
   pub sound_either : {E : Type 0} (result : Result (Unit {0}) E) (counts : List ℕ) → OnOk result (OwnsRoot old new word) → OnErr result (new ≡ record old { roots = with_places new.roots old.roots })
-      → IsSound D layouts counts old (store_view id config tables old tries) → IsRootWord D layouts (store_view id config tables old tries) word → IsSound D layouts counts new (store_view id config tables new tries)
+      → IsSoundStore D layouts counts old (store_view id config tables old tries) → IsRootWord D layouts (store_view id config tables old tries) word → IsSoundStore D layouts counts new (store_view id config tables new tries)
   sound_either (Ok done) counts ok err sound is = sound_owned layouts id config tables tries old new word ok counts sound is
-  sound_either (Err e) counts ok err sound is = subst (λ (v : OwnerView D). IsSound D layouts counts v (store_view id config tables v tries)) (sym err) (record {
+  sound_either (Err e) counts ok err sound is = subst (λ (v : OwnerView D). IsSoundStore D layouts counts v (store_view id config tables v tries)) (sym err) (record {
     idle = sound.idle;
     engine = sound.engine;
     number = sound.number;

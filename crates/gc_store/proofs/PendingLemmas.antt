@@ -20,7 +20,7 @@ use Rattle.gc_values.specs.declared.root.RootedObject.{RootedObject}
 use Rattle.gc_values.specs.declared.root.RootedObject.TheVariants as rooted_object
 use Rattle.gc_store.specs.Handles.{PushesRoot}
 use Rattle.gc_store.specs.Roots.{handle_of, word_of, is_of_store, IsRootWord, IsObject, IsReference}
-use Rattle.gc_store.specs.Stores.{StoreTables, store_view, IsSound, IsSameStore}
+use Rattle.gc_store.specs.Stores.{StoreTables, store_view, IsSoundStore, IsSameStore}
 use Rattle.gc_values.specs.SlotCounts.{slot_counts}
 use Rattle.gc_store.specs.Thrown.{SetsPending, AnswersPending}
 use Rattle.gc_store.proofs.HandleWords.{word_of-wrong, names_nothing}
@@ -68,7 +68,7 @@ module _ {D : Type 0} (layouts : Layouts) (id : StoreId) (config : HeapConfig) (
       })
 
   -- and is sound
-  pub sound_pending : (counts : List ℕ) (pending : Option Reference) (sound : IsSound D layouts counts old before) → ThrownBy sound.table.objects sound.holds.place pending word → IsSound D layouts counts new after
+  pub sound_pending : (counts : List ℕ) (pending : Option Reference) (sound : IsSoundStore D layouts counts old before) → ThrownBy sound.table.objects sound.holds.place pending word → IsSoundStore D layouts counts new after
   sound_pending counts pending sound thrown = record {
     idle = ap (λ (v : OwnerView D). v.idle) changes.rest ∙ sound.idle;
     engine = ap (λ (v : OwnerView D). v.types.engine) changes.rest ∙ sound.engine;

@@ -12,7 +12,7 @@ use Rattle.gc_owner.specs.declared.entry.RootEntry.{RootEntry}
 use Rattle.gc_owner.specs.RootColumns.{with_scoped, with_room}
 use Rattle.gc_owner.specs.Owners.{OwnerView, CanBegin}
 use Rattle.gc_owner.specs.Growing.{OwnerState, state_of, owner_rules}
-use Rattle.gc_owner.specs.Makes.{AddsRooted, AllocatesRooted}
+use Rattle.gc_owner.specs.Makes.{AddsScoped, AllocatesRooted}
 use Rattle.gc_owner.specs.Retry.{Retry}
 use Rattle.gc_model.specs.Values.{Reference, Value, Object}
 use Rattle.gc_model.specs.Reach.{object_values}
@@ -56,8 +56,8 @@ use Rattle.gc_values.specs.declared.root.RawValue.TheVariants as raw
 use Rattle.gc_values.specs.declared.root.RootSlot.TheVariants as slot
 use Rattle.gc_values.specs.declared.request.Place.TheVariants as place
 use Rattle.gc_values.specs.Filling.{asked_type, front_of, ContentsFit, ContentsStand, FillsBy, IsToFill}
-use Rattle.gc_values.specs.HeldSlots.{HasShape}
-use Rattle.gc_values.specs.Interning.{InternsAll, given_values}
+use Rattle.gc_values.specs.HeldSlots.{HasHeapShape}
+use Rattle.gc_values.specs.Interning.{InternsAll, request_values}
 use Rattle.gc_values.specs.Kept.{KeptStands}
 use Rattle.gc_values.specs.Making.{BeginsMaking}
 use Rattle.gc_store.specs.Places.{PlacesObject, HasIds}
@@ -67,7 +67,7 @@ use Rattle.gc_values.specs.RawValues.{raw_side_values}
 use Rattle.gc_values.proofs.GivenValues.{HaveAllIds, held_all, keeps_all}
 use Rattle.gc_values.proofs.Keeping.{counts_of, Keeps, keeps-making, keeps-retried, keeps-trans, same_count}
 use Rattle.gc_store.specs.Roots.{NamesReference}
-use Rattle.gc_values.specs.Words.{HandleRoots, handle_roots, AreRising, owned_id}
+use Rattle.gc_values.specs.Words.{HandleRoots, handle_roots, AreOwnedRising, owned_id}
 use Rattle.gc_store.proofs.KeptAgain.{IsRooted, with_more, rooted_again, rooted_more, stands_more}
 use Rattle.gc_store.proofs.NewObjects.{IsNew, HasAskedKind}
 use Rattle.gc_store.proofs.Pushing.{full_is}
@@ -123,7 +123,7 @@ raw_after s after t pages engine number (raw.Ref class (Some handle)) v stands =
 }
 
 -- An object that got its values, and an exception its tag, is of the shape still.
-shape_after : (layouts : Layouts) (request : Place) (shape : Shape) (o : HeapObject) (b : List ℕ) (n : ℕ) → HasAskedKind request o → front_of layouts request shape o.bytes b → HasShape o shape n → HasShape (record o { bytes = b }) shape n
+shape_after : (layouts : Layouts) (request : Place) (shape : Shape) (o : HeapObject) (b : List ℕ) (n : ℕ) → HasAskedKind request o → front_of layouts request shape o.bytes b → HasHeapShape o shape n → HasHeapShape (record o { bytes = b }) shape n
 shape_after layouts request (struct_of fields) o b n kind front has = has
 shape_after layouts (place.Struct ty) (array_of element) o b n kind front has = (has.0, has.1 ∙ sym (front 0 (array_front layouts (array_of element) refl)))
 shape_after layouts (place.Array ty count) (array_of element) o b n kind front has = (has.0, has.1 ∙ sym (front 0 (array_front layouts (array_of element) refl)))
@@ -141,7 +141,7 @@ pub record Creates {D : Type 0} (layouts : Layouts) (types : List Declaration) (
   pub mid : OwnerState D
   pub retried : Retry (owner_rules layouts (shape_size layouts new.shape new.count)) b true mid
   pub added : OwnerView D
-  pub adds : AddsRooted layouts mid.owner added new.blank (shape_size layouts new.shape new.count) index
+  pub adds : AddsScoped layouts mid.owner added new.blank (shape_size layouts new.shape new.count) index
   pub fills : FillsBy layouts (front_of layouts request new.shape) (ContentsStand ids given) added e.owner adds.word new.blank new.shape new.count
   pub limits : e.limits ≡ mid.limits
 
@@ -185,7 +185,7 @@ module _ {D : Type 0} (layouts : Layouts) (s : StoreView D) (v : OwnerView D) (r
   begun due due_is b begins = beginning_follows layouts counted start (count_try before) shows s.alloc_counter due (due_is ∙ ap (λ (n : ℕ). is_due s.alloc_counter (min (n + 1) (2 ^ 64 - 1))) is.holds.account.tries) begins.made b begins.begins begins.dues
 
   -- The object that was added may get its values.
-  pub may_fill : (ids : InternedIds) → HaveAllIds ids (raw_side_values (given_values request given)) → (due : Bool) (b : OwnerState D) → BeginsMaking layouts s.first due start b → (e : OwnerState D) (index : ℕ) (made : AllocatesRooted layouts new.blank size b e index)
+  pub may_fill : (ids : InternedIds) → HaveAllIds ids (raw_side_values (request_values request given)) → (due : Bool) (b : OwnerState D) → BeginsMaking layouts s.first due start b → (e : OwnerState D) (index : ℕ) (made : AllocatesRooted layouts new.blank size b e index)
       → IsToFill layouts e.owner made.adds.word (asked_type request) (ContentsFit ids request given) new.blank new.shape new.count
   may_fill ids have due b begins e index made =
       let keeps : Keeps v made.mid.owner = keeps-trans v b.owner made.mid.owner (keeps-making layouts s.first due start b begins) (keeps-retried layouts size b true made.mid made.retried) in
@@ -201,14 +201,14 @@ module _ {D : Type 0} (layouts : Layouts) (s : StoreView D) (v : OwnerView D) (r
         };
         of_type = new.of_type;
         blank = new.are_blank;
-        rising = subst AreRising (sym (ap (λ (x : OwnerView D). x.roots.owned) made.adds.rest)) (keeps.owned.rising is.holds.holds.owned.rising);
+        rising = subst AreOwnedRising (sym (ap (λ (x : OwnerView D). x.roots.owned) made.adds.rest)) (keeps.owned.rising is.holds.holds.owned.rising);
         fit = asked.fit ids (handle_roots e.owner.roots) have (λ r rooted.
             subst (λ (es : HandleRoots). IsRooted es r) (sym roots_are)
             (rooted_more (handle_roots made.mid.owner.roots) entry r (rooted_again (handle_roots v.roots) (handle_roots made.mid.owner.roots) r keeps.generations keeps.owned rooted)));
       }
 
   -- its function values were interned
-  module _ (ids : InternedIds) (interned : InternsAll s.ids ids (raw_side_values (given_values request given))) where
+  module _ (ids : InternedIds) (interned : InternsAll s.ids ids (raw_side_values (request_values request given))) where
     -- what is given stands for the same values by the roots with the new one
     stand_after : (due : Bool) (b : OwnerState D) → BeginsMaking layouts s.first due start b → (e : OwnerState D) (index : ℕ) (made : Creates layouts v.types.declarations ids request given new b e index) (pages : ℕ) (place : Placing) → Holds layouts (shown counted made.mid.owner) (with_pages pages t) place
         → StandsFor layouts (shown s v) t ids (naming place ids) (handle_roots made.added.roots)
@@ -228,7 +228,7 @@ module _ {D : Type 0} (layouts : Layouts) (s : StoreView D) (v : OwnerView D) (r
           raw_form_is = raw_form_is (shown s v) t r value stands ∙ sym form;
         }
 
-    module _ (o : Object D) (for : AsksFor layouts (shown s v) t request given new.shape new.count o) (same_values : (known : SideValues) → with_side_values (raw_side_values (given_values request given)) known ≡ with_side_values (side_values (object_values o)) known) where
+    module _ (o : Object D) (for : AsksFor layouts (shown s v) t request given new.shape new.count o) (same_values : (known : SideValues) → with_side_values (raw_side_values (request_values request given)) known ≡ with_side_values (side_values (object_values o)) known) where
       -- the object that was made stands for the table's
       made_object : (due : Bool) (b : OwnerState D) → BeginsMaking layouts s.first due start b → (e : OwnerState D) (index : ℕ) (made : Creates layouts v.types.declarations ids request given new b e index) (pages : ℕ) (place : Placing) → Holds layouts (shown counted made.mid.owner) (with_pages pages t) place
           → IsMadeObject layouts (intern (object_values o) (with_pages pages t)) (naming place ids) o made.mid.owner.heap e.owner.heap made.adds.word
@@ -237,7 +237,7 @@ module _ {D : Type 0} (layouts : Layouts) (s : StoreView D) (v : OwnerView D) (r
           let added = made.adds.adds.added in
           let fills = made.fills in
           let bytes : List ℕ = fills.bytes in
-          let has_now : HasShape (record new.blank { bytes = bytes }) new.shape new.count = shape_after layouts request new.shape new.blank bytes new.count new.of_kind fills.rewrites.front new.has in
+          let has_now : HasHeapShape (record new.blank { bytes = bytes }) new.shape new.count = shape_after layouts request new.shape new.blank bytes new.count new.of_kind fills.rewrites.front new.has in
           record {
             object = record new.blank { bytes = bytes };
             stands = for.stands (naming place ids) (record new.blank { bytes = bytes }) new.of_type has_now (asked_front layouts request new.shape new.blank.bytes bytes fills.rewrites.front) (ap (λ n. struct_base layouts + n) fills.rewrites.same_length ∙ new.stored)
@@ -265,7 +265,7 @@ module _ {D : Type 0} (layouts : Layouts) (s : StoreView D) (v : OwnerView D) (r
 
         -- the ids are those of what was interned with the object's
         by : InternedBy t.interned s.ids → InternedBy (with_side_values (side_values (object_values o)) t.interned) ids
-        by before = subst (λ (x : SideValues). InternedBy x ids) (same_values t.interned) (held_all s.ids ids (raw_side_values (given_values request given)) t.interned interned before)
+        by before = subst (λ (x : SideValues). InternedBy x ids) (same_values t.interned) (held_all s.ids ids (raw_side_values (request_values request given)) t.interned interned before)
 
         -- the table with the object is held, with its root pushed
         made_holds : (due : Bool) (b : OwnerState D) → BeginsMaking layouts s.first due start b → (e : OwnerState D) (index : ℕ) (made : Creates layouts v.types.declarations ids request given new b e index) (pages : ℕ) (account : Account) → HoldsAccount layouts (shown counted made.mid.owner) (with_pages pages t) account
@@ -277,7 +277,7 @@ module _ {D : Type 0} (layouts : Layouts) (s : StoreView D) (v : OwnerView D) (r
             (record {
               place = placed_at after.place (length t.objects) word;
               holds = holds_make layouts (with_ids ids (shown counted made.mid.owner)) (intern (object_values o) (with_pages pages t)) after.place o e.owner.heap word
-                  (holds_interned layouts (shown counted made.mid.owner) (with_pages pages t) after.place (object_values o) ids after.holds (keeps_all s.ids ids (raw_side_values (given_values request given)) interned) (by after.holds.interned)) object for.not_host refl not_full;
+                  (holds_interned layouts (shown counted made.mid.owner) (with_pages pages t) after.place (object_values o) ids after.holds (keeps_all s.ids ids (raw_side_values (request_values request given)) interned) (by after.holds.interned)) object for.not_host refl not_full;
               account = record {
                 held = held_more after.place account.held (length t.objects) word (λ p w placed. let held = after.holds.objects.placed p w placed in slice_get_within t.objects p held.entry held.in_table) after.account.held;
                 places = λ p. told_more layouts account.places after.place (length t.objects) word p (after.account.places p);

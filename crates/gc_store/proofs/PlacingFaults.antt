@@ -13,7 +13,7 @@ use Rattle.gc_heap.specs.Heap.{HasRoom}
 use Rattle.gc_owner.specs.Owners.{OwnerView}
 use Rattle.gc_owner.specs.Growing.{OwnerState, state_of, owner_rules, NotBegun}
 use Rattle.gc_owner.specs.Makes.{LacksSpace}
-use Rattle.gc_owner.specs.Retry.{Rules, Retry, at_once, after_collection, after_both, after_growth, after_refusal, Ends}
+use Rattle.gc_owner.specs.Retry.{Rules, Retry, at_once, after_collection, after_both, after_growth, after_refusal, HasFoundRoom}
 use Rattle.gc_values.specs.declared.request.Contents.{Contents}
 use Rattle.gc_values.specs.declared.request.Place.{Place}
 use Rattle.gc_values.specs.declared.faults.PlaceFault.{PlaceFault}
@@ -23,7 +23,7 @@ use Rattle.gc_policy.specs.Policy as policy
 use Rattle.gc_policy.specs.Policy.{PolicyState, policy_state, count_try, Prepares, Prepared}
 use Rattle.gc_policy.specs.Shown.{shown}
 use Rattle.gc_values.specs.Making.{BeginsMaking, MakesRooted}
-use Rattle.gc_store.specs.Places.{HasIds, Places, LacksPlace, MayGetPages, bytes_of}
+use Rattle.gc_store.specs.Places.{HasIds, Places, LacksPlace, MayGetPages, size_in_table}
 use Rattle.gc_store.specs.Stores.{is_full}
 use Rattle.gc_policy.proofs.CountedTries.{counted_store, counted_holds}
 use Rattle.gc_policy.proofs.KeptPlaces.{lacks-stay}
@@ -40,9 +40,9 @@ use Rattle.gc_store.proofs.Requested.{Asks, AsksFor}
 ends_lacking : {S : Type 0} (rules : Rules S) (s e : S) (ok : Bool) → Retry rules s ok e → ok ≡ false → rules.Lacks e
 ends_lacking rules s e ok (at_once fits) none = absurd (cc none)
 ends_lacking rules s e ok (after_collection lacks first collects fits) none = absurd (cc none)
-ends_lacking rules s e ok (after_both lacks first collects lacks_still grows may ends) none = subst (λ (b : Bool). Ends rules b e) none ends
+ends_lacking rules s e ok (after_both lacks first collects lacks_still grows may ends) none = subst (λ (b : Bool). HasFoundRoom rules b e) none ends
 ends_lacking rules s e ok (after_growth lacks first grows fits) none = absurd (cc none)
-ends_lacking rules s e ok (after_refusal lacks first grows collects ends) none = subst (λ (b : Bool). Ends rules b e) none ends
+ends_lacking rules s e ok (after_refusal lacks first grows collects ends) none = subst (λ (b : Bool). HasFoundRoom rules b e) none ends
 
 -- what a refusal leaves: the answer, and a table that the store holds
 pub record FollowsFault {D : Type 0} (layouts : Layouts) (s : StoreView D) (o : Object D) (p : PolicyState D) (e : OwnerState D) (f : PlaceFault) : Type 0 where
@@ -68,10 +68,10 @@ module _ {D : Type 0} (layouts : Layouts) (s : StoreView D) (v : OwnerView D) (r
   started : Shows layouts (counted_store s) h (count_try p)
   started = shows layouts s v request given new limits t a is asked
 
-  sizes : size ≡ bytes_of layouts o t
+  sizes : size ≡ size_in_table layouts o t
   sizes = sym (for.of_size layouts)
 
-  is_small : too_large layouts (bytes_of layouts o t) ≡ false
+  is_small : too_large layouts (size_in_table layouts o t) ≡ false
   is_small = ap (too_large layouts) (for.of_size layouts) ∙ small
 
   full : roots_full t ≡ false

@@ -14,7 +14,7 @@ use Rattle.gc_owner.specs.RootColumns.{with_room}
 use Rattle.gc_owner.specs.Owners.{OwnerView, CanBegin}
 use Rattle.gc_owner.specs.Growing.{OwnerState, state_of, owner_rules, NotBegun}
 use Rattle.gc_owner.specs.Makes.{LacksSpace}
-use Rattle.gc_owner.specs.Retry.{Rules, Retry, Paused, Ends, at_once, after_collection, after_both, after_growth, after_refusal}
+use Rattle.gc_owner.specs.Retry.{Rules, Retry, Paused, HasFoundRoom, at_once, after_collection, after_both, after_growth, after_refusal}
 use Rattle.gc_policy.specs.Accounts.{Account, HoldsAccount, counted, is_due, with_held}
 use Rattle.gc_policy.specs.Policy as policy
 use Rattle.gc_policy.specs.Policy.{PolicyState, policy_state, IsPlaceIn, count_try, Prepares, Prepared}
@@ -28,7 +28,7 @@ use Rattle.gc_policy.proofs.RootsShown.{SlotsInFrames}
 use Rattle.gc_values.specs.declared.root.GcRootIndex.{GcRootIndex}
 use Rattle.gc_values.specs.declared.root.RootSlot.TheVariants as slot
 use Rattle.gc_values.specs.Making.{BeginsMaking}
-use Rattle.gc_store.specs.Places.{PlacesObject, HasIds, LacksPlace, WantsPlace, MayGetPages, bytes_of}
+use Rattle.gc_store.specs.Places.{PlacesObject, HasIds, LacksPlace, WantsPlace, MayGetPages, size_in_table}
 use Rattle.gc_store.proofs.SpareLemmas.{holds_roomy}
 
 -- an owner that is ready, whose store holds a table
@@ -48,13 +48,13 @@ reserved_store {D} layouts s v w t a is same =
 ends_lacking : {S : Type 0} (rules : Rules S) (s e : S) (ok : Bool) → Retry rules s ok e → ok ≡ false → rules.Lacks e
 ends_lacking rules s e ok (at_once fits) none = absurd (cc none)
 ends_lacking rules s e ok (after_collection lacks first collects fits) none = absurd (cc none)
-ends_lacking rules s e ok (after_both lacks first collects lacks_still grows may ends) none = subst (λ (b : Bool). Ends rules b e) none ends
+ends_lacking rules s e ok (after_both lacks first collects lacks_still grows may ends) none = subst (λ (b : Bool). HasFoundRoom rules b e) none ends
 ends_lacking rules s e ok (after_growth lacks first grows fits) none = absurd (cc none)
-ends_lacking rules s e ok (after_refusal lacks first grows collects ends) none = subst (λ (b : Bool). Ends rules b e) none ends
+ends_lacking rules s e ok (after_refusal lacks first grows collects ends) none = subst (λ (b : Bool). HasFoundRoom rules b e) none ends
 
 -- an object of so many bytes is to be made, which isn't too large, and whose root may be pushed
 module _ {D : Type 0} (layouts : Layouts) (s : StoreView D) (v : OwnerView D) (limits : Limits) (t : Table D) (a : Account) (is : IsReadyStore layouts s v t a) (due : Bool) (due_is : due ≡ is_due s.alloc_counter (min (s.tries + 1) (2 ^ 64 - 1)))
-    (o : Object D) (size : ℕ) (sized : size ≡ bytes_of layouts o t) (small : too_large layouts size ≡ false) (full : roots_full t ≡ false) (has_ids : HasIds o t) where
+    (o : Object D) (size : ℕ) (sized : size ≡ size_in_table layouts o t) (small : too_large layouts size ≡ false) (full : roots_full t ≡ false) (has_ids : HasIds o t) where
   abbrev p : PolicyState D
   p = policy_state t a limits
 
@@ -80,7 +80,7 @@ module _ {D : Type 0} (layouts : Layouts) (s : StoreView D) (v : OwnerView D) (l
   begun b begins =
       beginning_follows layouts counted_view start (count_try p) started s.alloc_counter due (due_is ∙ ap (λ (n : ℕ). is_due s.alloc_counter (min (n + 1) (2 ^ 64 - 1))) is.holds.account.tries) begins.made b begins.begins begins.dues
 
-  is_small : too_large layouts (bytes_of layouts o t) ≡ false
+  is_small : too_large layouts (size_in_table layouts o t) ≡ false
   is_small = ap (too_large layouts) (sym sized) ∙ small
 
   -- the owner as it was holds what it held
@@ -179,7 +179,7 @@ module _ {D : Type 0} (layouts : Layouts) (s : StoreView D) (v : OwnerView D) (l
         allocates = record {
           pages = got.pages;
           gets = subst (λ (k : ℕ). GetsPages limits.limit t (need_of layouts k) got.pages) sized got.gets;
-          fits = fits-stay layouts (with_pages got.pages t) a.places retried.after.account.places (bytes_of layouts o t)
+          fits = fits-stay layouts (with_pages got.pages t) a.places retried.after.account.places (size_in_table layouts o t)
               (stays_on layouts counted_view s.alloc_counter b (count_try p) beginning retried.after.account.places retried.stay)
               (subst (FitsIn layouts retried.after.account.places (with_pages got.pages t)) sized (subst (λ (u : Table D). FitsIn layouts retried.after.account.places u size) got.is retried.tried.1));
           made = ap (make o) got.is;

@@ -21,7 +21,7 @@ use Rattle.gc_store.specs.Roots.{IsRootWord}
 use Rattle.gc_store.specs.Handles.{PushesRoot}
 use Rattle.gc_store.specs.OwnedWords.{HoldsThere}
 use Rattle.gc_store.specs.Staying.{OnlyAdds}
-use Rattle.gc_store.specs.Stores.{StoreTables, store_view, is_full, IsSound}
+use Rattle.gc_store.specs.Stores.{StoreTables, store_view, is_full, IsSoundStore}
 
 -- the store may push a root exactly where the table may
 pub full_is : {D : Type 0} (layouts : Layouts) (s : StoreView D) (t : Table D) (place : Placing) → Holds layouts s t place → is_full s ≡ roots_full t
@@ -98,10 +98,10 @@ module _ {D : Type 0} (layouts : Layouts) (id : StoreId) (config : HeapConfig) (
   })
 
   -- the store is sound after it
-  pub sound_pushed : (counts : List ℕ) → IsSound D layouts counts old before → IsRootWord D layouts before word → IsSound D layouts counts new (store_view id config tables new tries)
+  pub sound_pushed : (counts : List ℕ) → IsSoundStore D layouts counts old before → IsRootWord D layouts before word → IsSoundStore D layouts counts new (store_view id config tables new tries)
   sound_pushed counts sound is =
       let own = own_account layouts before is.table is.place is.holds in
-      subst (λ (v : OwnerView D). IsSound D layouts counts v (store_view id config tables v tries)) owner_is (record {
+      subst (λ (v : OwnerView D). IsSoundStore D layouts counts v (store_view id config tables v tries)) owner_is (record {
         idle = sound.idle;
         engine = sound.engine;
         number = sound.number;

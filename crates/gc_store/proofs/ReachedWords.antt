@@ -163,7 +163,7 @@ field_word layouts types names o h stands traced r among =
 record IsThere {D : Type 0} (layouts : Layouts) (place : Placing) (v : OwnerView D) (p : ℕ) : Type 0 where
   pub word : ℕ
   pub placed : place p ≡ Some word
-  pub reached : heap.Reached layouts (start_of v) word
+  pub reached : heap.ReachedPlace layouts (start_of v) word
 
 module _ {D : Type 0} (layouts : Layouts) (s : StoreView D) (v : OwnerView D) (t : Table D) (place : Placing) (holds : Holds layouts (shown s v) t place) (in_frames : SlotsInFrames v.roots) (all_held : AllHeld v.roots.owned) (traced : AreTraced layouts v.types.declarations v.heap) where
   held_at : (p word : ℕ) → place p ≡ Some word → IsHeld v.heap word × (0 < word)
@@ -219,14 +219,14 @@ module _ {D : Type 0} (s : StoreView D) (v : OwnerView D) (t : Table D) (place :
   placed_there : (p : ℕ) → Contains positions p → place p ≡ Some (word_at p)
   placed_there p c = let is = there p c in is.placed ∙ ap (λ (o : Option ℕ). Some (word_of o)) (sym is.placed)
 
-  reached_word : (word : ℕ) → Contains (map word_at positions) word → heap.Reached Copying (start_of v) word
+  reached_word : (word : ℕ) → Contains (map word_at positions) word → heap.ReachedPlace Copying (start_of v) word
   reached_word word c =
       let found = contains_map word_at positions word c in
       let among = get_contains positions found.index found.element found.there in
       let is = there found.element among in
-      subst (heap.Reached Copying (start_of v)) (sym (ap word_of is.placed) ∙ found.is) is.reached
+      subst (heap.ReachedPlace Copying (start_of v)) (sym (ap word_of is.placed) ∙ found.is) is.reached
 
-  word_reached : (word : ℕ) → heap.Reached Copying (start_of v) word → Contains (map word_at positions) word
+  word_reached : (word : ℕ) → heap.ReachedPlace Copying (start_of v) word → Contains (map word_at positions) word
   word_reached word reached =
       let held = kept_held Copying (start_of v) word reached in
       let position = holds.objects.only word held.0 held.1 in

@@ -45,12 +45,12 @@ use Rattle.gc_values.specs.declared.request.Contents.{Contents}
 use Rattle.gc_values.specs.declared.request.Contents.TheVariants as contents
 use Rattle.gc_values.specs.declared.root.RawValue.{RawValue}
 use Rattle.gc_values.specs.Filling.{asked_type, BytesFit, ContentsFit, ContentsStand, EachFits, EachStands, SameFits, SameStands}
-use Rattle.gc_values.specs.HeldSlots.{HasShape}
-use Rattle.gc_values.specs.Interning.{given_values}
+use Rattle.gc_values.specs.HeldSlots.{HasHeapShape}
+use Rattle.gc_values.specs.Interning.{request_values}
 use Rattle.gc_values.specs.Making.{IsSizeOf}
 use Rattle.gc_values.specs.Kept.{StoredStands}
-use Rattle.gc_store.specs.Requests.{CanPlaceIn, CanPlaceFields, CanPlaceStruct, CanPlaceException, IsObjectOf, fields_of, exn_fields_of, element_of, stored_as}
-use Rattle.gc_values.specs.Tagging.{HasTag}
+use Rattle.gc_store.specs.Requests.{CanPlaceIn, CanPlaceFields, CanPlaceStruct, CanPlaceException, IsObjectOf, struct_fields_of, exn_fields_of, element_of, stored_as}
+use Rattle.gc_values.specs.Tagging.{BeginsWithTag}
 use Rattle.gc_store.specs.Values.{AllStand, CanStore, RawStands}
 use Rattle.gc_values.specs.RawValues.{raw_side_values}
 use Rattle.gc_values.proofs.GivenValues.{HaveAllIds, have_one}
@@ -67,7 +67,7 @@ StandsFor {D} layouts s t ids names roots =
 -- an exception has its tag
 abbrev pub HasAskedFront : Place → List ℕ → Type 0
 HasAskedFront (place.Struct ty) bytes = Unit {0}
-HasAskedFront (place.Exn ty tag) bytes = HasTag tag bytes
+HasAskedFront (place.Exn ty tag) bytes = BeginsWithTag tag bytes
 HasAskedFront (place.Array ty count) bytes = Unit {0}
 
 -- What a requested object of the table is: of the size and the shape of what is made, with values that what is given stands for.
@@ -76,12 +76,12 @@ pub record AsksFor {D : Type 0} (layouts : Layouts) (s : StoreView D) (t : Table
   pub of_size : (k : Layouts) → object_size k t.types o ≡ shape_size k shape count
   pub typed : IsTypedObject t.types t.objects o
   pub contents : (ids : InternedIds) (names : Names) (roots : HandleRoots) → StandsFor layouts s t ids names roots → ContentsStand ids given names roots (shape_slots layouts shape count) (object_values o)
-  pub stands : (names : Names) (h : HeapObject) → h.ty ≡ asked_type request → HasShape h shape count → HasAskedFront request h.bytes → struct_base layouts + length h.bytes ≡ stored_size layouts (shape_size layouts shape count)
+  pub stands : (names : Names) (h : HeapObject) → h.ty ≡ asked_type request → HasHeapShape h shape count → HasAskedFront request h.bytes → struct_base layouts + length h.bytes ≡ stored_size layouts (shape_size layouts shape count)
       → ValuesLie names (struct_base layouts) (shape_slots layouts shape count) (object_values o) h.bytes → Stands layouts t.types names o h
 
 -- What is given fits what is made for a request, and stands for what is asked for.
 pub record Asks {D : Type 0} (layouts : Layouts) (s : StoreView D) (t : Table D) (request : Place) (given : Contents) (new : IsNew D layouts s.types request) : Type 0 where
-  pub fit : (ids : InternedIds) (roots : HandleRoots) → HaveAllIds ids (raw_side_values (given_values request given)) → ((r : RawValue) → IsRooted (store_roots s) r → IsRooted roots r) → ContentsFit ids request given roots (shape_slots layouts new.shape new.count)
+  pub fit : (ids : InternedIds) (roots : HandleRoots) → HaveAllIds ids (raw_side_values (request_values request given)) → ((r : RawValue) → IsRooted (store_roots s) r → IsRooted roots r) → ContentsFit ids request given roots (shape_slots layouts new.shape new.count)
   pub some : (o : Object D) × IsObjectOf s t request given o
   pub asks_for : (t : Table D) (p : Placing) (o : Object D) → Holds layouts s t p → IsObjectOf s t request given o → AsksFor layouts s t request given new.shape new.count o
 
@@ -143,12 +143,12 @@ values_with {D} s t (x ∷ raws) each =
     at first {vs} rest (suc i) r v e f = rest.each i r v e f
 
 -- one value for all elements: where there are some, it is looked at
-have_same : (ids : InternedIds) (ty count : ℕ) (value : Bor RawValue) → HaveAllIds ids (raw_side_values (given_values (place.Array ty count) (contents.Same value))) → 0 < count → HaveAllIds ids (raw_side_values (value.now ∷ []))
+have_same : (ids : InternedIds) (ty count : ℕ) (value : Bor RawValue) → HaveAllIds ids (raw_side_values (request_values (place.Array ty count) (contents.Same value))) → 0 < count → HaveAllIds ids (raw_side_values (value.now ∷ []))
 have_same ids ty zero value have some = absurd (omega (arith, some))
 have_same ids ty (suc n) value have some = have
 
 same_side_values : (ty count : ℕ) (given : Bor RawValue) (v : Value) → (0 < count → raw_side_values (given.now ∷ []) ≡ side_values (v ∷ [])) → (known : SideValues)
-    → with_side_values (raw_side_values (given_values (place.Array ty count) (contents.Same given))) known ≡ with_side_values (side_values (replicate count v)) known
+    → with_side_values (raw_side_values (request_values (place.Array ty count) (contents.Same given))) known ≡ with_side_values (side_values (replicate count v)) known
 same_side_values ty zero given v is known = refl
 same_side_values ty (suc n) given v is known = ap (λ (given : SideValues). with_side_values given known) (is (omega arith)) ∙ sym (side-replicate n v known)
 
@@ -210,7 +210,7 @@ module _ (D : Type 0) (layouts : Layouts) (s : StoreView D) (t0 : Table D) (plac
     declared_here : struct_fields_at t.types ty ≡ Some can.fields
     declared_here = ap (λ (ts : List Declaration). struct_fields_at ts ty) (sym holds.types) ∙ can.declared
 
-    fields_are : fields_of t.types ty ≡ can.fields
+    fields_are : struct_fields_of t.types ty ≡ can.fields
     fields_are = ap (λ (fs : Option (List FieldType)). unwrap_or fs []) declared_here
 
     struct_for : (vs : List Value) (all : AllStand s t raws vs) (given : Bor (List RawValue)) → given.now ≡ raws → AsksFor layouts s t (place.Struct ty) (contents.Each given) (struct_of can.fields) 0 (struct ty (stored_in can.fields vs))
@@ -285,7 +285,7 @@ module _ (D : Type 0) (layouts : Layouts) (s : StoreView D) (t0 : Table D) (plac
       array_size_is : (values : List Value) → length values ≡ count → (k : Layouts) → object_size {D = D} k t.types (array ty values) ≡ shape_size k (array_of element) count
       array_size_is values long k = ap (λ (e : Option FieldType). elements_size k e (length values)) element_here ∙ ap (elements_size k (Some element)) long
 
-      array_stands_as : (values : List Value) → length values ≡ count → (names : Names) (h : HeapObject) → h.ty ≡ ty → HasShape h (array_of element) count → struct_base layouts + length h.bytes ≡ stored_size layouts (shape_size layouts (array_of element) count)
+      array_stands_as : (values : List Value) → length values ≡ count → (names : Names) (h : HeapObject) → h.ty ≡ ty → HasHeapShape h (array_of element) count → struct_base layouts + length h.bytes ≡ stored_size layouts (shape_size layouts (array_of element) count)
           → ValuesLie names (struct_base layouts) slots values h.bytes → Stands {D = D} layouts t.types names (array ty values) h
       array_stands_as values long names h same_type has size lie =
           array_stands layouts t.types names ty values h same_type element element_here has.0 (sym has.1 ∙ sym long)
@@ -387,7 +387,7 @@ module _ (D : Type 0) (layouts : Layouts) (s : StoreView D) (t0 : Table D) (plac
   pub asks : (request : Place) (given : Contents) → (counted : IsCounted request) (can : CanPlaceIn D layouts s request given) → Asks layouts s t0 request given (new_of D layouts s request given counted can)
   asks (place.Struct ty) (contents.Each values) counted can = record {
     fit = fields_fit (struct_fields_at s.types ty) values.now can (struct_base layouts);
-    some = (let vs = fields_some (struct_fields_at s.types ty) values.now can in (struct ty (stored_in (fields_of t0.types ty) vs.0), (vs.0, (vs.1, refl))));
+    some = (let vs = fields_some (struct_fields_at s.types ty) values.now can in (struct ty (stored_in (struct_fields_of t0.types ty) vs.0), (vs.0, (vs.1, refl))));
     asks_for = λ t p o holds is.
         let e : o ≡ struct ty (stored_in can.fields is.0) = is.1.1 ∙ ap (λ (fs : List FieldType). struct ty (stored_in fs is.0)) (fields_are ty values.now can t p holds) in
         subst (λ (x : Object D). AsksFor layouts s t (place.Struct ty) (contents.Each values) (struct_of can.fields) 0 x) (sym e) (struct_for ty values.now can t p holds is.0 is.1.0 values refl);
@@ -428,7 +428,7 @@ module _ (D : Type 0) (layouts : Layouts) (s : StoreView D) (t0 : Table D) (plac
 
   -- its function values and continuations are those that are given
   pub asked_side_values : (request : Place) (given : Contents) → CanPlaceIn D layouts s request given → (t : Table D) (p : Placing) (o : Object D) → Holds layouts s t p → IsObjectOf s t request given o
-      → (known : SideValues) → with_side_values (raw_side_values (given_values request given)) known ≡ with_side_values (side_values (object_values o)) known
+      → (known : SideValues) → with_side_values (raw_side_values (request_values request given)) known ≡ with_side_values (side_values (object_values o)) known
   asked_side_values (place.Struct ty) (contents.Each values) can t p o holds is known =
       let e : o ≡ struct ty (stored_in can.fields is.0) = is.1.1 ∙ ap (λ (fs : List FieldType). struct ty (stored_in fs is.0)) (fields_are ty values.now can t p holds) in
       fields_side_values (struct_fields_at s.types ty) values.now can t is.0 is.1.0 known ∙ ap (λ (x : Object D). with_side_values (side_values (object_values x)) known) (sym e)

@@ -25,19 +25,19 @@ use Rattle.gc_values.specs.declared.config.HeapConfig.{HeapConfig}
 
 -- roots that are no frame slots are on no stack
 off_stack : (kind : ℕ) (words : List ℕ) (r : Root) → Contains (listed_as kind false words) r → r.on_stack ≡ false
-off_stack kind words r c = let found = contains_map (λ (w : ℕ). root kind false w) (columns.present words) r c in sym (ap (λ (x : Root). x.on_stack) found.is)
+off_stack kind words r c = let found = contains_map (λ (w : ℕ). root kind false w) (columns.non_null_words words) r c in sym (ap (λ (x : Root). x.on_stack) found.is)
 
 no_stack : {A : Type 0} (kind : ℕ) (words : List ℕ) (r : Root) → r.on_stack ≡ true → Contains (listed_as kind false words) r → A
 no_stack kind words r on c = let off = off_stack kind words r c in absurd (cc)
 
 -- a root on a stack is that of a slot
-on_stack : (r : RootsView) (x : Root) → Contains (roots_of r) x → x.on_stack ≡ true → Contains (columns.slot_words r) x.word
+on_stack : (r : RootsView) (x : Root) → Contains (roots_of r) x → x.on_stack ≡ true → Contains (columns.frame_slot_words r) x.word
 on_stack r x c on = elim (Contains-append_cases (listed_as 0 false (scoped_words r)) behind_scoped x c) [
   | inl scoped ↦ no_stack 0 (scoped_words r) x on scoped
   | inr behind ↦ elim (Contains-append_cases (listed_as 1 false (owned_words r)) behind_owned x behind) [
     | inl owned ↦ no_stack 1 (owned_words r) x on owned
-    | inr later ↦ elim (Contains-append_cases (listed_as 2 true (columns.slot_words r)) behind_slots x later) [
-      | inl slot ↦ (listed_word 2 true (columns.slot_words r) x slot).0
+    | inr later ↦ elim (Contains-append_cases (listed_as 2 true (columns.frame_slot_words r)) behind_slots x later) [
+      | inl slot ↦ (listed_word 2 true (columns.frame_slot_words r) x slot).0
       | inr last ↦ elim (Contains-append_cases (listed_as 3 false (global_words r)) (listed_as 4 false (r.pending ∷ [])) x last) [
         | inl global ↦ no_stack 3 (global_words r) x on global
         | inr pending ↦ no_stack 4 (r.pending ∷ []) x on pending
@@ -50,16 +50,16 @@ on_stack r x c on = elim (Contains-append_cases (listed_as 0 false (scoped_words
     behind_slots = listed_as 3 false (global_words r) ++ listed_as 4 false (r.pending ∷ [])
 
     behind_owned : List Root
-    behind_owned = listed_as 2 true (columns.slot_words r) ++ behind_slots
+    behind_owned = listed_as 2 true (columns.frame_slot_words r) ++ behind_slots
 
     behind_scoped : List Root
     behind_scoped = listed_as 1 false (owned_words r) ++ behind_owned
 
-stack_slot : (r : RootsView) (word : ℕ) → Contains (stack_words (roots_of r)) word → Contains (columns.slot_words r) word
+stack_slot : (r : RootsView) (word : ℕ) → Contains (stack_words (roots_of r)) word → Contains (columns.frame_slot_words r) word
 stack_slot r word c =
     let found = contains_map (λ (x : Root). x.word) (filter (λ (x : Root). x.on_stack) (roots_of r)) word c in
     let among = filter_among (λ (x : Root). x.on_stack) (roots_of r) found.element (get_contains (filter (λ (x : Root). x.on_stack) (roots_of r)) found.index found.element found.there) in
-    subst (Contains (columns.slot_words r)) found.is (on_stack r found.element among.0 among.1)
+    subst (Contains (columns.frame_slot_words r)) found.is (on_stack r found.element among.0 among.1)
 
 -- what a collection leaves of the counts of a counting heap
 anew : (layouts : Layouts) (s : Start) (to : ℕ → ℕ) (h : HeapView) (roots : List Root) → layouts ≡ Counting → KindCollected layouts s to h roots → CountsAnew s.types h roots

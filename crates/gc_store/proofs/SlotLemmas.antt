@@ -26,7 +26,7 @@ use Rattle.gc_values.specs.declared.root.RootFault.TheVariants as fault
 use Rattle.gc_store.specs.Reading.{ReadsReference, reference_value}
 use Rattle.gc_store.specs.Roots.{IsRootWord}
 use Rattle.gc_store.specs.Slots.{told_of_slot, FindsWord, ReadsSlot, slot_value}
-use Rattle.gc_store.specs.Stores.{StoreTables, store_view, IsSound}
+use Rattle.gc_store.specs.Stores.{StoreTables, store_view, IsSoundStore}
 use Rattle.gc_store.specs.Values.{ReadsValue}
 use Rattle.gc_values.proofs.Keeping.{counts_of}
 
@@ -49,7 +49,7 @@ module _ {D : Type 0} (layouts : Layouts) (id : StoreId) (config : HeapConfig) (
       })
 
   -- and is sound
-  pub sound_global_set : (counts : List ℕ) (handle : Option GcRootIndex) (sound : IsSound D layouts counts old before) → FindsWord before sound.table sound.holds.place handle (Ok word) → IsSound D layouts counts new after
+  pub sound_global_set : (counts : List ℕ) (handle : Option GcRootIndex) (sound : IsSoundStore D layouts counts old before) → FindsWord before sound.table sound.holds.place handle (Ok word) → IsSoundStore D layouts counts new after
   sound_global_set counts handle sound finds = record {
     idle = ap (λ (v : OwnerView D). v.idle) changes.rest ∙ sound.idle;
     engine = ap (λ (v : OwnerView D). v.types.engine) changes.rest ∙ sound.engine;

@@ -15,7 +15,7 @@ use Rattle.gc_heap.specs.Content.{IsHeap}
 use Rattle.gc_owner.specs.Owners.{OwnerView, new_owner, spent_owner}
 use Rattle.gc_model.specs.Reach.{AreAll}
 use Rattle.gc_model.specs.Holds.{Holds, KindHolds}
-use Rattle.gc_policy.specs.Collects.{IsPlaced}
+use Rattle.gc_policy.specs.Collects.{HasPlace}
 use Rattle.gc_policy.specs.Accounts.{no_account}
 use Rattle.gc_policy.proofs.HeapGaps.{told_nowhere}
 use Rattle.gc_values.specs.declared.engine.StoreId.{StoreId}
@@ -26,7 +26,7 @@ use Rattle.gc_values.specs.declared.subtypes.TypePair.{TypePair}
 use Rattle.gc_values.specs.Subtypes.{kept_count}
 use Rattle.std.proofs.lemmas.List.{nil_from_length}
 use Rattle.gc_store.specs.Collectings.{IsSpent, spent_table}
-use Rattle.gc_store.specs.Stores.{StoreTables, tables_of, store_view, IsSound, HoldsStart, ShowsNothing, configured, tables_of}
+use Rattle.gc_store.specs.Stores.{StoreTables, tables_of, store_view, IsSoundStore, HoldsStart, ShowsNothing, configured, tables_of}
 use Rattle.gc_values.specs.Interning.{ids_of, ids_of}
 use Rattle.gc_values.specs.SlotCounts.{slot_counts}
 
@@ -37,7 +37,7 @@ pub record CountsNothing {D : Type 0} (s : StoreView D) : Type 0 where
   pub upper : s.heap.needs_gc ≡ false
 
 -- no object is held
-nothing_held : AreAll (IsPlaced nowhere) []
+nothing_held : AreAll (HasPlace nowhere) []
 unfolding IsDistinct
 nothing_held = record { distinct = tt; all = λ p. (λ c. absurd (omega (arith, c.1)), λ placed. absurd (none-some placed.0 placed.1)) }
 
@@ -60,7 +60,7 @@ starts_untouched D layouts s untouched counts = record {
 }
 
 -- and is sound
-pub sound_start : (D : Type 0) (layouts : Layouts) (counts : List ℕ) (v : OwnerView D) (s : StoreView D) → v.idle ≡ true → v.types.engine ≡ s.engine → v.types.number ≡ s.number → counts ≡ slot_counts s.frames → HoldsStart D layouts s → IsSound D layouts counts v s
+pub sound_start : (D : Type 0) (layouts : Layouts) (counts : List ℕ) (v : OwnerView D) (s : StoreView D) → v.idle ≡ true → v.types.engine ≡ s.engine → v.types.number ≡ s.number → counts ≡ slot_counts s.frames → HoldsStart D layouts s → IsSoundStore D layouts counts v s
 sound_start D layouts counts v s idle engine number frames holds = record {
   idle = idle;
   engine = engine;
@@ -92,7 +92,7 @@ module _ {D : Type 0} (id : StoreId) (config : HeapConfig) (tables : StoreTables
       (record { last = refl; tries = refl; upper = refl }))
 
   -- and is sound
-  pub sound_new : (layouts : Layouts) (counts : List ℕ) → counts ≡ [] → IsSound D layouts counts v (store_view id config tables v 0)
+  pub sound_new : (layouts : Layouts) (counts : List ℕ) → counts ≡ [] → IsSoundStore D layouts counts v (store_view id config tables v 0)
   sound_new layouts counts no_frames =
       sound_start D layouts counts v (store_view id config tables v 0) (ap (λ (o : OwnerView D). o.idle) fresh) (ap (λ (o : OwnerView D). o.types.engine) fresh) (ap (λ (o : OwnerView D). o.types.number) fresh)
       (no_frames ∙ ap (λ (s : StoreView D). slot_counts s.frames) (sym new_view)) (starts_fresh layouts)
@@ -149,7 +149,7 @@ module _ {D : Type 0} (id : StoreId) (config : HeapConfig) (tables : StoreTables
         account = record { held = nothing_held; places = told_nowhere layouts; last = refl; tries = refl; upper = refl };
       })
 
-  pub sound_spent : (layouts : Layouts) (counts : List ℕ) → counts ≡ [] → IsSound D layouts counts v (store_view id config tables v 0)
+  pub sound_spent : (layouts : Layouts) (counts : List ℕ) → counts ≡ [] → IsSoundStore D layouts counts v (store_view id config tables v 0)
   sound_spent layouts counts no_frames = record {
     idle = ap (λ (o : OwnerView D). o.idle) spent;
     engine = ap (λ (o : OwnerView D). o.types.engine) spent;
@@ -184,7 +184,7 @@ starts_configured D layouts config s holds =
     starts_untouched D layouts (configured config s) still (record { last = holds.account.last; tries = holds.account.tries; upper = holds.account.upper })
 
 -- a sound store that shows nothing holds the empty table, where no collection ran without a heap
-pub starts_nothing : (D : Type 0) (layouts : Layouts) (counts : List ℕ) (v : OwnerView D) (s : StoreView D) → IsHeap layouts s.heap → (s.heap.attached ≡ false → s.last ≡ 0) → IsSound D layouts counts v s → ShowsNothing s → HoldsStart D layouts s
+pub starts_nothing : (D : Type 0) (layouts : Layouts) (counts : List ℕ) (v : OwnerView D) (s : StoreView D) → IsHeap layouts s.heap → (s.heap.attached ≡ false → s.last ≡ 0) → IsSoundStore D layouts counts v s → ShowsNothing s → HoldsStart D layouts s
 starts_nothing D layouts counts v s heap unused sound nothing =
     starts_untouched D layouts s (untouched_from_parts layouts s sound.table sound.holds.place sound.holds.holds nothing.types nothing.scoped nothing.generation nothing.frames nothing.globals nothing.pending nothing.owns nothing.ids nothing.attached)
     (record { last = unused nothing.attached; tries = nothing.tries; upper = ap (λ (h : HeapView). h.needs_gc) (heap.detached nothing.attached) })

@@ -4,7 +4,7 @@ use Rattle.gc_heap.specs.Collection.{Start, IsIncrements}
 use Rattle.gc_heap.specs.declared.collection.GcProgress.{GcProgress}
 use Rattle.gc_heap.specs.declared.collection.GcProgress.TheVariants as progress
 use Rattle.gc_owner.specs.Counting.{CountsSteps}
-use Rattle.gc_owner.specs.Owners.{OwnerValue, Kind, Increments, IsUnderWay}
+use Rattle.gc_owner.specs.Owners.{OwnerValue, Kind, Increments, IsOwnerUnderWay}
 use Rattle.gc_model.specs.Stores.{StoreView}
 use Rattle.gc_model.specs.Holds.{HoldsTable}
 use Rattle.gc_values.specs.declared.engine.StoreId.{StoreId}
@@ -19,7 +19,7 @@ use Rattle.gc_store.proofs.Suspending.{with_owner, store_of, still_sound, still_
 module _ {H S D : Type 0} (k : Kind H S) (id : StoreId) (config : HeapConfig) (tables : StoreTables) (tries : ℕ) where
   -- so the store stays sound
   pub step_suspended : (counts : List ℕ) (v w : OwnerValue H S D) (b : Bool) (answer : GcProgress) → IsSuspended k counts (with_owner k id config tables tries v b) → (v.seen.idle ≡ true → w ≡ v)
-      → ((s : Start) (n : ℕ) (c : Bool) (from : OwnerValue H S D) → IsUnderWay k s n c from v → Increments k s (n + 1) from w answer) → IsSuspended k counts (with_owner k id config tables tries w b)
+      → ((s : Start) (n : ℕ) (c : Bool) (from : OwnerValue H S D) → IsOwnerUnderWay k s n c from v → Increments k s (n + 1) from w answer) → IsSuspended k counts (with_owner k id config tables tries w b)
   step_suspended counts v w b answer (waits begun sound trimmed) same steps = subst (λ (x : OwnerValue H S D). IsSuspended k counts (with_owner k id config tables tries x b)) (sym (same sound.idle)) (waits begun sound trimmed)
   step_suspended counts v w b answer (is_over begun sound) same steps = subst (λ (x : OwnerValue H S D). IsSuspended k counts (with_owner k id config tables tries x b)) (sym (same sound.idle)) (is_over begun sound)
   step_suspended counts v w b answer (goes begun is) same steps = by answer (steps is.start is.done is.counted is.from is.way)

@@ -5,12 +5,12 @@ use Rattle.gc_heap.specs.Content.{IsHeap}
 use Rattle.gc_heap.specs.Collection.{Start}
 use Rattle.gc_owner.specs.declared.entry.OwnedEntry.{OwnedEntry}
 use Rattle.gc_owner.specs.RootColumns.{RootsView, AreFrames}
-use Rattle.gc_owner.specs.Owners.{OwnerView, OwnerValue, Kind, Trims, Collects, IsGoing, IsUnderWay, IsEnded, start_of}
+use Rattle.gc_owner.specs.Owners.{OwnerView, OwnerValue, Kind, Trims, Collects, IsGoing, IsOwnerUnderWay, IsEnded, start_of}
 use Rattle.gc_model.specs.Stores.{StoreView}
 use Rattle.gc_model.proofs.OwnedRoots.{trimmed_held}
 use Rattle.gc_values.specs.declared.engine.StoreId.{StoreId}
 use Rattle.gc_values.specs.declared.config.HeapConfig.{HeapConfig}
-use Rattle.gc_store.specs.Stores.{StoreTables, store_view, IsSound}
+use Rattle.gc_store.specs.Stores.{StoreTables, store_view, IsSoundStore}
 use Rattle.gc_store.specs.Suspensions.{SuspendedView, suspended_view, BeganSound, IsSuspended, waits, goes, is_over}
 use Rattle.gc_store.specs.Collectings.{IsCollected, IsTrimmedStore, WasStore, IsTrimmedFrom, IsAsked, IsRunning, IsOpen, IsClosed}
 use Rattle.gc_policy.proofs.CollectedStore.{unmade_kept}
@@ -83,7 +83,7 @@ module _ {H S D : Type 0} (k : Kind H S) (id : StoreId) (config : HeapConfig) (t
       by false is = asks_unmade old v w shows is (unmade is)
 
   -- and the store may stay out of its place
-  pub waits_trimmed : (counts : List ℕ) (v w : OwnerValue H S D) → IsSound D k.layouts counts v.seen (store_of v.seen) → AreFrames v.seen.roots.frames (length v.seen.roots.slots)
+  pub waits_trimmed : (counts : List ℕ) (v w : OwnerValue H S D) → IsSoundStore D k.layouts counts v.seen (store_of v.seen) → AreFrames v.seen.roots.frames (length v.seen.roots.slots)
       → (v.seen.heap.attached ≡ true → Trims k.layouts v.seen w.seen) → (v.seen.heap.attached ≡ false → w ≡ v) → IsSuspended k counts (with_owner w false)
   waits_trimmed counts v w sound in_frames made unmade = by v.seen.heap.attached refl
     where
@@ -196,19 +196,19 @@ module _ {H S D : Type 0} (k : Kind H S) (id : StoreId) (config : HeapConfig) (t
 
   -- The store stays sound
 
-  pub sound_ended : (counts : List ℕ) (from w : OwnerView D) → BeganSound k.layouts counts (store_of w) from → Collects k.layouts from w → IsSound D k.layouts counts w (store_of w)
+  pub sound_ended : (counts : List ℕ) (from w : OwnerView D) → BeganSound k.layouts counts (store_of w) from → Collects k.layouts from w → IsSoundStore D k.layouts counts w (store_of w)
   sound_ended counts from w began ended = sound_collected k.layouts (store_of w) from w began.in_frames began.attached ended counts began.sound
 
   -- after some increments, or all
   pub ends_sound : (counts : List ℕ) (v w : OwnerValue H S D) (b : Bool) → IsSuspended k counts (with_owner v b) → (v.seen.idle ≡ true → w ≡ v)
-      → ((s : Start) (n : ℕ) (c : Bool) (from : OwnerValue H S D) → IsUnderWay k s n c from v → IsEnded k.layouts from w) → IsSound D k.layouts counts w.seen (store_of w.seen)
-  ends_sound counts v w b (waits begun sound trimmed) same ended = subst (λ (x : OwnerValue H S D). IsSound D k.layouts counts x.seen (store_of x.seen)) (sym (same sound.idle)) sound
-  ends_sound counts v w b (is_over begun sound) same ended = subst (λ (x : OwnerValue H S D). IsSound D k.layouts counts x.seen (store_of x.seen)) (sym (same sound.idle)) sound
+      → ((s : Start) (n : ℕ) (c : Bool) (from : OwnerValue H S D) → IsOwnerUnderWay k s n c from v → IsEnded k.layouts from w) → IsSoundStore D k.layouts counts w.seen (store_of w.seen)
+  ends_sound counts v w b (waits begun sound trimmed) same ended = subst (λ (x : OwnerValue H S D). IsSoundStore D k.layouts counts x.seen (store_of x.seen)) (sym (same sound.idle)) sound
+  ends_sound counts v w b (is_over begun sound) same ended = subst (λ (x : OwnerValue H S D). IsSoundStore D k.layouts counts x.seen (store_of x.seen)) (sym (same sound.idle)) sound
   ends_sound counts v w b (goes begun is) same ended =
       sound_ended counts is.from.seen w.seen (still_sound counts v.seen w.seen is.from.seen is.began) (ended is.start is.done is.counted is.from is.way)
 
   pub ends_suspended : (counts : List ℕ) (v w : OwnerValue H S D) (b : Bool) → IsSuspended k counts (with_owner v b) → (v.seen.idle ≡ true → w ≡ v)
-      → ((s : Start) (n : ℕ) (c : Bool) (from : OwnerValue H S D) → IsUnderWay k s n c from v → IsEnded k.layouts from w) → IsSuspended k counts (with_owner w b)
+      → ((s : Start) (n : ℕ) (c : Bool) (from : OwnerValue H S D) → IsOwnerUnderWay k s n c from v → IsEnded k.layouts from w) → IsSuspended k counts (with_owner w b)
   ends_suspended counts v w b (waits begun sound trimmed) same ended = subst (λ (x : OwnerValue H S D). IsSuspended k counts (with_owner x b)) (sym (same sound.idle)) (waits begun sound trimmed)
   ends_suspended counts v w b (is_over begun sound) same ended = subst (λ (x : OwnerValue H S D). IsSuspended k counts (with_owner x b)) (sym (same sound.idle)) (is_over begun sound)
   ends_suspended counts v w b (goes begun is) same ended = is_over begun (ends_sound counts v w b (goes begun is) same ended)
@@ -221,7 +221,7 @@ module _ {H S D : Type 0} (k : Kind H S) (id : StoreId) (config : HeapConfig) (t
   gives_untouched counts old v w b counted is same (inr (some, running)) = absurd (omega (arith, some))
 
   pub gives_ended : (old : StoreView D) (done : ℕ) (v w : OwnerValue H S D) (b counted : Bool) → w.seen.idle ≡ true
-      → ((s : Start) (n : ℕ) (c : Bool) (from : OwnerValue H S D) → IsUnderWay k s n c from v → IsEnded k.layouts from w) → IsOpen k old (done + 1) counted (with_owner v b) → IsCollected k.layouts old (store_of w.seen)
+      → ((s : Start) (n : ℕ) (c : Bool) (from : OwnerValue H S D) → IsOwnerUnderWay k s n c from v → IsEnded k.layouts from w) → IsOpen k old (done + 1) counted (with_owner v b) → IsCollected k.layouts old (store_of w.seen)
   gives_ended old done v w b counted idle ended (inl (none, asked)) = absurd (omega (arith, none))
   gives_ended old done v w b counted idle ended (inr (some, is)) = (closes old (done + 1) counted v w b is (ended is.at (done + 1) counted is.from is.way) idle).collected
 

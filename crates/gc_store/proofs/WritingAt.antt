@@ -34,7 +34,7 @@ use Rattle.gc_values.specs.declared.slot.Slot.{Slot}
 use Rattle.gc_values.specs.declared.stored.Stored.{Stored}
 use Rattle.gc_values.specs.Filling.{slot_bytes}
 use Rattle.gc_values.specs.HeldSlots.{FindsHeldSlot, storage_slot}
-use Rattle.gc_values.specs.Kept.{code_of, FitsForm, IsKept, KeptAs, KeptStands, raw_form, StoredStands}
+use Rattle.gc_values.specs.Kept.{kept_code, FitsForm, CanBeKept, KeptAs, KeptStands, raw_form, StoredStands}
 use Rattle.gc_store.specs.Roots.{store_roots, word_of}
 use Rattle.gc_store.specs.Values.{CanStore, CanWrite, NamesLive, RawStands, KeepsValue}
 use Rattle.gc_values.specs.RawValues.{raw_side_values}
@@ -92,23 +92,23 @@ module _ (D : Type 0) (layouts : Layouts) (s : StoreView D) where
     -- what is kept of it stands for that value
     pub kept_stands : (ids : InternedIds) (r : RawValue) (v : Value) → RawStands s t r v → KeptStands ids (naming place ids) (store_roots s) r v
     kept_stands ids (raw.I32 n) v stands x kept small =
-        let code : code_of x ≡ cast_unsigned w32 n = ap code_of kept in
-        subst (λ (w : Value). IsCode (naming place ids) w (code_of x)) (sym stands)
+        let code : kept_code x ≡ cast_unsigned w32 n = ap kept_code kept in
+        subst (λ (w : Value). IsCode (naming place ids) w (kept_code x)) (sym stands)
         (code ∙ sym (of_z-to_z w32 (cast_unsigned w32 n) (subst (FitsForm (raw_form (raw.I32 n))) code small)))
     kept_stands ids (raw.I64 n) v stands x kept small =
-        let code : code_of x ≡ cast_unsigned w64 n = ap code_of kept in
-        subst (λ (w : Value). IsCode (naming place ids) w (code_of x)) (sym stands)
+        let code : kept_code x ≡ cast_unsigned w64 n = ap kept_code kept in
+        subst (λ (w : Value). IsCode (naming place ids) w (kept_code x)) (sym stands)
         (code ∙ sym (of_z-to_z w64 (cast_unsigned w64 n) (subst (FitsForm (raw_form (raw.I64 n))) code small)))
-    kept_stands ids (raw.F32 n) v stands x kept small = subst (λ (w : Value). IsCode (naming place ids) w (code_of x)) (sym stands) (ap code_of kept)
-    kept_stands ids (raw.F64 n) v stands x kept small = subst (λ (w : Value). IsCode (naming place ids) w (code_of x)) (sym stands) (ap code_of kept)
-    kept_stands ids (raw.V128 n) v stands x kept small = subst (λ (w : Value). IsCode (naming place ids) w (code_of x)) (sym stands) (ap code_of kept)
-    kept_stands ids (raw.Func f) v stands x kept small = subst (λ (w : Value). IsCode (naming place ids) w (code_of x)) (sym stands) (subst (IsIdCode ids.funcs f) (sym (ap code_of kept.1.1)) kept.1.0)
-    kept_stands ids (raw.Cont c) v stands x kept small = subst (λ (w : Value). IsCode (naming place ids) w (code_of x)) (sym stands) (subst (IsContCode ids.conts c) (sym (ap code_of kept.1.1)) kept.1.0)
-    kept_stands ids (raw.Ref class None) v stands x kept small = subst (λ (w : Value). IsCode (naming place ids) w (code_of x)) (sym stands) (ap code_of kept)
+    kept_stands ids (raw.F32 n) v stands x kept small = subst (λ (w : Value). IsCode (naming place ids) w (kept_code x)) (sym stands) (ap kept_code kept)
+    kept_stands ids (raw.F64 n) v stands x kept small = subst (λ (w : Value). IsCode (naming place ids) w (kept_code x)) (sym stands) (ap kept_code kept)
+    kept_stands ids (raw.V128 n) v stands x kept small = subst (λ (w : Value). IsCode (naming place ids) w (kept_code x)) (sym stands) (ap kept_code kept)
+    kept_stands ids (raw.Func f) v stands x kept small = subst (λ (w : Value). IsCode (naming place ids) w (kept_code x)) (sym stands) (subst (IsIdCode ids.funcs f) (sym (ap kept_code kept.1.1)) kept.1.0)
+    kept_stands ids (raw.Cont c) v stands x kept small = subst (λ (w : Value). IsCode (naming place ids) w (kept_code x)) (sym stands) (subst (IsContCode ids.conts c) (sym (ap kept_code kept.1.1)) kept.1.0)
+    kept_stands ids (raw.Ref class None) v stands x kept small = subst (λ (w : Value). IsCode (naming place ids) w (kept_code x)) (sym stands) (ap kept_code kept)
     kept_stands ids (raw.Ref class (Some handle)) v stands x kept small =
         let word = own_word s handle (named_of_store s t handle stands.root stands.named) ∙ kept.1.0 in
-        subst (λ (w : Value). IsCode (naming place ids) w (code_of x)) (sym stands.is)
-        (subst (IsWord place stands.root) (sym (ap code_of kept.1.1)) (named_word layouts s t place holds handle stands.root kept.0 stands.named word).0)
+        subst (λ (w : Value). IsCode (naming place ids) w (kept_code x)) (sym stands.is)
+        (subst (IsWord place stands.root) (sym (ap kept_code kept.1.1)) (named_word layouts s t place holds handle stands.root kept.0 stands.named word).0)
 
     -- What a slot keeps of a value that fits it
     pub stored_stands : (ids : InternedIds) (ty : StorageType) (r : RawValue) (v : Value) → RawStands s t r v → fits t.types t.objects ty v ≡ true → StoredStands ids (naming place ids) (store_roots s) ty r (stored ty v)
@@ -159,11 +159,11 @@ module _ (D : Type 0) (layouts : Layouts) (s : StoreView D) (handle : GcRootInde
     spot_form = storable_form D layouts s can.table can.holds.0 can.holds.1 can.field.element_type r can.can_store ∙ ap storage_form spot_type
 
     module _ (ids : InternedIds) (interned : InternsAll s.ids ids (raw_side_values (r ∷ []))) where
-      pub spot_kept : IsKept ids (store_roots s) r
+      pub spot_kept : CanBeKept ids (store_roots s) r
       spot_kept = rooted_kept ids (store_roots s) r (interned_ids s.ids ids (raw_side_values (r ∷ [])) can.table.interned can.holds.1.interned interned) (is_rooted D layouts s r can.can_store.live)
 
-      module _ (heap : HeapView) (x : Stored) (kept : KeptAs ids (store_roots s) r x) (small : FitsForm (raw_form r) (code_of x))
-          (written : (object : HeapObject) → get s.heap.content word ≡ Some object → heap ≡ record (put_object s.heap word (with_data layouts object found.offset (slot_bytes found.storage (code_of x)))) { counts = heap.counts }) where
+      module _ (heap : HeapView) (x : Stored) (kept : KeptAs ids (store_roots s) r x) (small : FitsForm (raw_form r) (kept_code x))
+          (written : (object : HeapObject) → get s.heap.content word ≡ Some object → heap ≡ record (put_object s.heap word (with_data layouts object found.offset (slot_bytes found.storage (kept_code x)))) { counts = heap.counts }) where
         abbrev after : StoreView D
         after = record s { heap = heap; ids = ids }
 
@@ -176,18 +176,18 @@ module _ (D : Type 0) (layouts : Layouts) (s : StoreView D) (handle : GcRootInde
             let ty : found.storage ≡ field.element_type = ap (λ (y : StorageSlot). y.storage) slot ∙ sym lies.lying.type_is ∙ ap (λ (f : FieldType). f.element_type) same in
             let fit : fits t.types t.objects found.storage v ≡ true =
             sym (ap (λ (st : StorageType). fits t.types t.objects st v) spot_type) ∙ can.can_store.fits t v (holds.place, holds.holds) stands in
-            let is : heap ≡ record (put_object s.heap word (with_data layouts lies.object found.offset (slot_bytes found.storage (code_of x)))) { counts = heap.counts } = written lies.object lies.is.held in
+            let is : heap ≡ record (put_object s.heap word (with_data layouts lies.object found.offset (slot_bytes found.storage (kept_code x)))) { counts = heap.counts } = written lies.object lies.is.held in
             let values : List Value = stored found.storage v ∷ [] in
             let given : raw_side_values (r ∷ []) ≡ side_values values = raw-stands s t r v stands ∙ sym (side-stored found.storage v) in
             let by : InternedBy (with_side_values (side_values values) t.interned) ids =
             subst (λ (x : SideValues). InternedBy (with_side_values x t.interned) ids) given (held_all s.ids ids (raw_side_values (r ∷ [])) t.interned interned holds.holds.interned) in
             let now : Holds layouts after (write has.position index (stored found.storage v) t) holds.place =
-            holds_write layouts (with_ids ids s) (intern values t) holds.place heap word has.position index has.object (storage_slot found) (stored found.storage v) (slot_bytes found.storage (code_of x))
+            holds_write layouts (with_ids ids s) (intern values t) holds.place heap word has.position index has.object (storage_slot found) (stored found.storage v) (slot_bytes found.storage (kept_code x))
             (holds_interned layouts s t holds.place values ids holds.holds (keeps_all s.ids ids (raw_side_values (r ∷ [])) interned) by) lies.placed has.object_is
             (subst (IsSlotOf layouts t.types has.object index) (sym slot) lies.lying.is_slot)
             (kept_encoded ids (naming holds.place ids) (store_roots s) found.storage r (stored found.storage v) x (stored_stands D layouts s t holds.place holds.holds ids found.storage r v stands fit) kept small)
             (fits-stored t.types t.objects found.storage v fit)
-            (written_object layouts s.heap heap word found.offset lies.object (slot_bytes found.storage (code_of x)) lies.is.held is) in
+            (written_object layouts s.heap heap word found.offset lies.object (slot_bytes found.storage (kept_code x)) lies.is.held is) in
             record {
               place = holds.place;
               holds = subst (λ (st : StorageType). Holds layouts after (write has.position index (stored st v) t) holds.place) ty now;

@@ -9,7 +9,7 @@ use Rattle.gc_heap.specs.declared.collection.GcProgress.{GcProgress}
 use Rattle.gc_heap.specs.declared.collection.GcProgress.TheVariants as progress
 use Rattle.gc_owner.specs.declared.entry.OwnedEntry.{OwnedEntry}
 use Rattle.gc_owner.specs.RootColumns.{AreFrames}
-use Rattle.gc_owner.specs.Owners.{OwnerView, OwnerValue, Kind, Trims, IsUnderWay, start_of}
+use Rattle.gc_owner.specs.Owners.{OwnerView, OwnerValue, Kind, Trims, IsOwnerUnderWay, start_of}
 use Rattle.gc_owner.specs.Counting.{CountsSteps}
 use Rattle.gc_model.specs.Allocation.{Limits}
 use Rattle.gc_model.specs.Table.{Table, start}
@@ -79,7 +79,7 @@ pub record IsRunning {H S D : Type 0} (k : Kind H S) (old : StoreView D) (done :
   pub from : OwnerValue H S D
   pub was : WasStore k.layouts old from.seen c.store
   pub at : Start
-  pub way : IsUnderWay k at done counted from c.owner
+  pub way : IsOwnerUnderWay k at done counted from c.owner
 
 -- The collection of that store was asked for and isn't complete: so many increments were done, each of them counted or not.
 abbrev pub IsOpen : {H S D : Type 0} → Kind H S → StoreView D → ℕ → Bool → SuspendedView H S D → Type 0

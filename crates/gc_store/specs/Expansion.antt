@@ -8,12 +8,12 @@ use Rattle.gc_store.specs.declared.grow.GrowFault.{GrowFault}
 use Rattle.gc_store.specs.declared.grow.GrowFault.TheVariants as fault
 use Rattle.gc_policy.specs.Accounts.{HoldsAccount}
 use Rattle.gc_store.specs.Places.{MayGetPages}
-use Rattle.gc_policy.specs.Policy.{PolicyState, Expands, Expanded, CollectsTable, allocated_bytes}
+use Rattle.gc_policy.specs.Policy.{PolicyState, ExpandsTable, Expanded, CollectsTable, allocated_bytes}
 
 -- a growth by so many bytes was granted or refused
 pub record ExpandsStore {D : Type 0} (layouts : Layouts) (bytes : ℕ) (p : PolicyState D) (limits' : Limits) (granted : Bool) (new : StoreView D) : Type 0 where
   pub after : PolicyState D
-  pub expands : Expands layouts bytes p granted after
+  pub expands : ExpandsTable layouts bytes p granted after
   pub grows : Grows p.limits.limit bytes p.table granted after.table
   pub holds : HoldsAccount layouts new after.table after.account
   pub limits : limits' ≡ after.limits
@@ -49,7 +49,7 @@ unused_bytes layouts p = page * p.table.pages - allocated_bytes layouts p.table 
 -- A collection ran, and then the heap grew where it has fewer bytes than are needed, or was refused to.
 pub data MakesRoom {D : Type 0} (layouts : Layouts) (need : ℕ) (p : PolicyState D) : PolicyState D → Type 0 where
   enough : {q : PolicyState D} → MayCollectTable layouts p q → need ≤ unused_bytes layouts q → MakesRoom layouts need p q
-  grows : {m q : PolicyState D} {granted : Bool} → MayCollectTable layouts p m → unused_bytes layouts m < need → Expands layouts need m granted q
+  grows : {m q : PolicyState D} {granted : Bool} → MayCollectTable layouts p m → unused_bytes layouts m < need → ExpandsTable layouts need m granted q
       → MakesRoom layouts need p q
 
 -- memory was wanting in the growth after the collection

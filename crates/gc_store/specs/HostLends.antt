@@ -37,9 +37,9 @@ SetsHost {D} layouts s handle new w =
 
 module _ (H D S : RattleType) (g : heap.Ghosts H.Denot S.Denot) (s : MutBor (StoreView D.Denot)) where
   -- once the borrow ends, the id has the last value written through it; at `None` the store stays as it is
-  abbrev pub lends_value : ℕ → Option (MutBor D.Denot) → Fml
-  lends_value id r = LendsIf (the_row H D S g) D s r (λ w. with_host_at id w s.now) s.now
+  abbrev pub store_lends_value : ℕ → Option (MutBor D.Denot) → Fml
+  store_lends_value id r = LendsIf (the_row H D S g) D s r (λ w. with_host_at id w s.now) s.now
 
   -- once it ends, the host object has the last value written through it; where nothing is lent the store stays as it is
-  abbrev pub lends_host : GcRootIndex → Result (MutBor D.Denot) HostDataFault → Fml
-  lends_host handle r = LendsSoOk (the_row H D S g) D s r (λ n w. SetsHost g.KIND s.now handle n w) (λ n. n ≡ s.now)
+  abbrev pub store_lends_host : GcRootIndex → Result (MutBor D.Denot) HostDataFault → Fml
+  store_lends_host handle r = LendsSoOk (the_row H D S g) D s r (λ n w. SetsHost g.KIND s.now handle n w) (λ n. n ≡ s.now)

@@ -21,20 +21,20 @@ use Rattle.gc_values.specs.declared.root.RootFault.{RootFault}
 use Rattle.gc_values.specs.Making.{BeginsMaking}
 
 -- what allocating a host object of an owner answers and leaves
-abbrev pub AllocatesHost : {D : Type 0} → Layouts → D → OwnerState D → OwnerState D → Result ℕ (PlaceHostFault D) → Type 0
-AllocatesHost layouts value s e (Ok index) = MadeHost layouts value s e index
-AllocatesHost layouts value s e (Err fault.RootsFull) = ⊥
-AllocatesHost layouts value s e (Err (fault.HeapOutOfMemory f)) = (f.inner ≡ value) × LacksSpace layouts (external_size layouts) s e f.bytes_needed
-AllocatesHost layouts value s e (Err fault.Memory) = Paused (owner_rules layouts (external_size layouts)) s e
+abbrev pub AllocatesRootedHost : {D : Type 0} → Layouts → D → OwnerState D → OwnerState D → Result ℕ (PlaceHostFault D) → Type 0
+AllocatesRootedHost layouts value s e (Ok index) = MadeHost layouts value s e index
+AllocatesRootedHost layouts value s e (Err fault.RootsFull) = ⊥
+AllocatesRootedHost layouts value s e (Err (fault.HeapOutOfMemory f)) = (f.inner ≡ value) × LacksSpace layouts (external_size layouts) s e f.bytes_needed
+AllocatesRootedHost layouts value s e (Err fault.Memory) = Paused (owner_rules layouts (external_size layouts)) s e
 
 -- what making a heap and a host object in it answers and leaves
-abbrev pub MakesHost : {D : Type 0} → Layouts → D → ℕ → Bool → OwnerState D → OwnerState D → Result ℕ (PlaceHostFault D) → Type 0
-MakesHost {D} layouts value first due s e (Ok index) = (b : OwnerState D) × (BeginsMaking layouts first due s b × MadeHost layouts value b e index)
-MakesHost layouts value first due s e (Err fault.RootsFull) = ⊥
-MakesHost {D} layouts value first due s e (Err (fault.HeapOutOfMemory f)) = (f.inner ≡ value)
+abbrev pub MakesRootedHost : {D : Type 0} → Layouts → D → ℕ → Bool → OwnerState D → OwnerState D → Result ℕ (PlaceHostFault D) → Type 0
+MakesRootedHost {D} layouts value first due s e (Ok index) = (b : OwnerState D) × (BeginsMaking layouts first due s b × MadeHost layouts value b e index)
+MakesRootedHost layouts value first due s e (Err fault.RootsFull) = ⊥
+MakesRootedHost {D} layouts value first due s e (Err (fault.HeapOutOfMemory f)) = (f.inner ≡ value)
     × ((NotBegun first s e × (f.bytes_needed ≡ need_of layouts (external_size layouts)))
     ⊎ ((b : OwnerState D) × (BeginsMaking layouts first due s b × LacksSpace layouts (external_size layouts) b e f.bytes_needed)))
-MakesHost {D} layouts value first due s e (Err fault.Memory) =
+MakesRootedHost {D} layouts value first due s e (Err fault.Memory) =
     (e ≡ s) ⊎ ((b : OwnerState D) × (BeginsMaking layouts first due s b × Paused (owner_rules layouts (external_size layouts)) b e))
 
 -- The id of the host value of what a word names: of an external object the number in it tells it, of anything else there is none.

@@ -22,13 +22,13 @@ IsStructOrArray kind = (kind ≡ kinds.StructRef) ⊎ (kind ≡ kinds.ArrayRef)
 
 -- A handle of the first kind names objects of the second: of a struct, an array or an exception that alone, of any
 -- reference a struct or an array, and of the embedder's all but an exception.
-abbrev pub Takes : VMGcKind → VMGcKind → Type 0
-Takes kinds.StructRef kind = kind ≡ kinds.StructRef
-Takes kinds.ArrayRef kind = kind ≡ kinds.ArrayRef
-Takes kinds.ExnRef kind = kind ≡ kinds.ExnRef
-Takes kinds.AnyRef kind = IsStructOrArray kind
-Takes kinds.EqRef kind = IsStructOrArray kind
-Takes kinds.ExternRef kind = ¬ (kind ≡ kinds.ExnRef)
+abbrev pub TakesKind : VMGcKind → VMGcKind → Type 0
+TakesKind kinds.StructRef kind = kind ≡ kinds.StructRef
+TakesKind kinds.ArrayRef kind = kind ≡ kinds.ArrayRef
+TakesKind kinds.ExnRef kind = kind ≡ kinds.ExnRef
+TakesKind kinds.AnyRef kind = IsStructOrArray kind
+TakesKind kinds.EqRef kind = IsStructOrArray kind
+TakesKind kinds.ExternRef kind = ¬ (kind ≡ kinds.ExnRef)
 
 -- a handle of that kind names 31-bit numbers
 abbrev pub TakesNumbers : VMGcKind → Type 0
@@ -40,16 +40,16 @@ TakesNumbers kinds.EqRef = Unit {0}
 TakesNumbers kinds.ExternRef = Unit {0}
 
 -- a handle of that kind names the reference
-abbrev pub IsOfKind : {D : Type 0} → VMGcKind → Table D → Reference → Type 0
-IsOfKind kind t null = ⊥
-IsOfKind kind t (small n) = TakesNumbers kind
-IsOfKind {D} kind t (at p) = (object : Object D) × ((slice_get t.objects p ≡ Some object) × Takes kind (object_kind object))
+abbrev pub IsReferenceOfKind : {D : Type 0} → VMGcKind → Table D → Reference → Type 0
+IsReferenceOfKind kind t null = ⊥
+IsReferenceOfKind kind t (small n) = TakesNumbers kind
+IsReferenceOfKind {D} kind t (at p) = (object : Object D) × ((slice_get t.objects p ≡ Some object) × TakesKind kind (object_kind object))
 
 -- Where the handle is live, it names a reference of that kind, in some table that the store holds.
 pub record NamesKind (D : Type 0) (layouts : Layouts) (s : StoreView D) (kind : VMGcKind) (handle : GcRootIndex) : Type 0 where
   pub table : Table D
   pub holds : HoldsTable layouts s table
-  pub is : (r : Reference) → NamesReference s table handle r → IsOfKind kind table r
+  pub is : (r : Reference) → NamesReference s table handle r → IsReferenceOfKind kind table r
 
 -- The handle is of a scoped root that stands, and its reference is of that kind, in some table that the store holds.
 pub record IsScopedOfKind (D : Type 0) (layouts : Layouts) (s : StoreView D) (kind : VMGcKind) (handle : GcRootIndex) : Type 0 where
@@ -57,4 +57,4 @@ pub record IsScopedOfKind (D : Type 0) (layouts : Layouts) (s : StoreView D) (ki
   pub holds : HoldsTable layouts s table
   pub root : Reference
   pub named : NamesScoped s table handle root
-  pub of_kind : IsOfKind kind table root
+  pub of_kind : IsReferenceOfKind kind table root

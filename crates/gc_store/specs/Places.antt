@@ -18,8 +18,8 @@ use Rattle.gc_policy.specs.Accounts.{HoldsAccount, with_held}
 use Rattle.gc_policy.specs.Policy.{PolicyState, IsPlaceIn, Prepares, Prepared}
 
 -- the bytes of an object of the table, as its heap lays it out
-abbrev pub bytes_of : {D : Type 0} → Layouts → Object D → Table D → ℕ
-bytes_of layouts o t = object_size layouts t.types o
+abbrev pub size_in_table : {D : Type 0} → Layouts → Object D → Table D → ℕ
+size_in_table layouts o t = object_size layouts t.types o
 
 -- no ids are left for all of the object's function values that aren't interned yet, or for all of its continuations
 abbrev pub lacks_ids : {D : Type 0} → (SideValues → SideValues → Bool) → Object D → Table D → Bool
@@ -32,13 +32,13 @@ pub record HasIds {D : Type 0} (o : Object D) (t : Table D) : Type 0 where
 
 -- the object is in the table, lies where the policy lets it, and the handle is that of its push
 pub record PlacesObject {D : Type 0} (layouts : Layouts) (counter : Option ℕ) (o : Object D) (p : PolicyState D) (limits' : Limits) (handle : GcRootIndex) (new : StoreView D) : Type 0 where
-  pub small : too_large layouts (bytes_of layouts o p.table) ≡ false
+  pub small : too_large layouts (size_in_table layouts o p.table) ≡ false
   pub not_full : roots_full p.table ≡ false
   pub after : PolicyState D
-  pub prepares : Prepares layouts counter (bytes_of layouts o p.table) p true after
+  pub prepares : Prepares layouts counter (size_in_table layouts o p.table) p true after
   pub allocates : Allocates layouts p.limits.limit p.account.places o p.table (make o after.table)
   pub word : ℕ
-  pub lies : IsPlaceIn layouts after word (bytes_of layouts o p.table)
+  pub lies : IsPlaceIn layouts after word (size_in_table layouts o p.table)
   pub holds : HoldsAccount layouts new (make o after.table) (with_held layouts (length p.table.objects) word after.account)
   pub limits : limits' ≡ after.limits
   pub handle_is : handle ≡ handle_of new (length p.table.scoped) p.table.drops
@@ -46,13 +46,13 @@ pub record PlacesObject {D : Type 0} (layouts : Layouts) (counter : Option ℕ) 
 
 -- The first pages were refused, or the heap was refused more pages and has no room, of whatever kind it is.
 pub record LacksPlace {D : Type 0} (layouts : Layouts) (counter : Option ℕ) (o : Object D) (p : PolicyState D) (limits' : Limits) (need : ℕ) (new : StoreView D) : Type 0 where
-  pub small : too_large layouts (bytes_of layouts o p.table) ≡ false
+  pub small : too_large layouts (size_in_table layouts o p.table) ≡ false
   pub not_full : roots_full p.table ≡ false
-  pub asked : need ≡ need_of layouts (bytes_of layouts o p.table)
+  pub asked : need ≡ need_of layouts (size_in_table layouts o p.table)
   pub after : PolicyState D
-  pub prepares : Prepares layouts counter (bytes_of layouts o p.table) p false after
+  pub prepares : Prepares layouts counter (size_in_table layouts o p.table) p false after
   pub lacks : LacksMemory layouts p.limits.limit p.account.places o p.table after.table
-  pub no_room : after.table.made ≡ true → HasRoom layouts new.heap (bytes_of layouts o p.table) → ⊥
+  pub no_room : after.table.made ≡ true → HasRoom layouts new.heap (size_in_table layouts o p.table) → ⊥
   pub holds : HoldsAccount layouts new after.table after.account
   pub limits : limits' ≡ after.limits
   pub has_ids : HasIds o p.table
@@ -64,9 +64,9 @@ MayGetPages limit bytes t t' = (t' ≡ t) ⊎ ((pages : ℕ) × (GetsPages limit
 -- memory was wanting on the way
 pub record WantsPlace {D : Type 0} (layouts : Layouts) (counter : Option ℕ) (o : Object D) (p : PolicyState D) (limits' : Limits) (new : StoreView D) : Type 0 where
   pub after : PolicyState D
-  pub prepared : Prepared layouts counter (bytes_of layouts o p.table) p after
-  pub begun : (after ≡ p) ⊎ ((too_large layouts (bytes_of layouts o p.table) ≡ false) × (roots_full p.table ≡ false))
-  pub pages : MayGetPages p.limits.limit (need_of layouts (bytes_of layouts o p.table)) p.table after.table
+  pub prepared : Prepared layouts counter (size_in_table layouts o p.table) p after
+  pub begun : (after ≡ p) ⊎ ((too_large layouts (size_in_table layouts o p.table) ≡ false) × (roots_full p.table ≡ false))
+  pub pages : MayGetPages p.limits.limit (need_of layouts (size_in_table layouts o p.table)) p.table after.table
   pub holds : HoldsAccount layouts new after.table after.account
   pub limits : limits' ≡ after.limits
 
@@ -82,8 +82,8 @@ Places layouts counter o p limits' (Err fault.FuncTableFull) new = (lacks_ids fu
 Places layouts counter o p limits' (Err fault.ContTableFull) new =
     (lacks_ids conts_full o p.table ≡ true) × RefusesPlace layouts p limits' new × (lacks_ids functions_full o p.table ≡ false)
 Places layouts counter o p limits' (Err fault.TooLarge) new =
-    (too_large layouts (bytes_of layouts o p.table) ≡ true) × RefusesPlace layouts p limits' new × HasIds o p.table
+    (too_large layouts (size_in_table layouts o p.table) ≡ true) × RefusesPlace layouts p limits' new × HasIds o p.table
 Places layouts counter o p limits' (Err fault.RootsFull) new =
-    (too_large layouts (bytes_of layouts o p.table) ≡ false) × (roots_full p.table ≡ true) × RefusesPlace layouts p limits' new × HasIds o p.table
+    (too_large layouts (size_in_table layouts o p.table) ≡ false) × (roots_full p.table ≡ true) × RefusesPlace layouts p limits' new × HasIds o p.table
 Places layouts counter o p limits' (Err (fault.HeapOutOfMemory f)) new = LacksPlace layouts counter o p limits' f.bytes_needed new
 Places layouts counter o p limits' (Err fault.Memory) new = WantsPlace layouts counter o p limits' new

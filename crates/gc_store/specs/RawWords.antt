@@ -10,7 +10,7 @@ use Rattle.gc_policy.specs.Accounts.{Account, HoldsAccount}
 use Rattle.gc_values.specs.declared.root.GcRootIndex.{GcRootIndex}
 use Rattle.gc_values.specs.declared.root.RootFault.{RootFault}
 use Rattle.gc_store.specs.Handles.{PushesRoot}
-use Rattle.gc_store.specs.Kinds.{IsOfKind}
+use Rattle.gc_store.specs.Kinds.{IsReferenceOfKind}
 use Rattle.gc_store.specs.OwnedWords.{HoldsThere, OwnsWord}
 
 -- the word is that of a reference of that kind, in some table that the store holds
@@ -20,7 +20,7 @@ pub record IsWordOfKind (D : Type 0) (layouts : Layouts) (s : StoreView D) (kind
   pub holds : Holds layouts s table place
   pub root : Reference
   pub is_word : IsWord place root word
-  pub of_kind : IsOfKind kind table root
+  pub of_kind : IsReferenceOfKind kind table root
 
 -- the word is 0, or that of a reference of that kind
 abbrev pub IsRawWord : (D : Type 0) → Layouts → StoreView D → VMGcKind → ℕ → Type 0

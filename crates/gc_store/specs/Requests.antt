@@ -18,8 +18,8 @@ use Rattle.gc_values.specs.declared.root.RawValue.{RawValue}
 use Rattle.gc_store.specs.Values.{RawStands, AllStand, CanStore}
 
 -- the fields of a struct type; none where there is no such type
-abbrev pub fields_of : List Declaration → ℕ → List FieldType
-fields_of types ty = unwrap_or (struct_fields_at types ty) []
+abbrev pub struct_fields_of : List Declaration → ℕ → List FieldType
+struct_fields_of types ty = unwrap_or (struct_fields_at types ty) []
 
 -- what an array type's elements are stored as
 abbrev pub stored_as : Option FieldType → StorageType
@@ -87,7 +87,7 @@ IsFilled s t ty count r o = (v : Value) × ((0 < count → RawStands s t r v) ×
 -- the object of the table that is requested so
 abbrev pub IsObjectOf : {D : Type 0} → StoreView D → Table D → Place → Contents → Object D → Type 0
 IsObjectOf s t (place.Struct ty) (contents.Each values) o = (vs : List Value)
-    × (AllStand s t values.now vs × (o ≡ struct ty (stored_in (fields_of t.types ty) vs)))
+    × (AllStand s t values.now vs × (o ≡ struct ty (stored_in (struct_fields_of t.types ty) vs)))
 IsObjectOf s t (place.Struct ty) (contents.Same value) o = ⊥
 IsObjectOf s t (place.Struct ty) (contents.Bytes bytes) o = ⊥
 IsObjectOf s t (place.Exn ty tag) (contents.Each values) o = (vs : List Value)

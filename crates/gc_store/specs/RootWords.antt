@@ -20,18 +20,18 @@ use Rattle.gc_store.specs.Handles.{PushesRoot}
 use Rattle.gc_store.specs.OwnedWords.{HoldsThere}
 
 -- what each element gives with its number, from the first one's on
-abbrev pub numbered : {A B : Type 0} → (ℕ → A → B) → ℕ → List A → List B
-numbered give from [] = []
-numbered give from (x ∷ xs) = give from x ∷ numbered give (from + 1) xs
+abbrev pub with_numbers : {A B : Type 0} → (ℕ → A → B) → ℕ → List A → List B
+with_numbers give from [] = []
+with_numbers give from (x ∷ xs) = give from x ∷ with_numbers give (from + 1) xs
 
 abbrev pub root_word : RootName → ℕ → RootWord
 root_word root word = record { name = root; word = word }
 
-abbrev pub global_root : ℕ → SlotEntry → RootWord
-global_root index entry = root_word (name.Global index) entry.word
+abbrev pub global_root_word : ℕ → SlotEntry → RootWord
+global_root_word index entry = root_word (name.Global index) entry.word
 
-abbrev pub slot_root : ℕ → ℕ → SlotEntry → RootWord
-slot_root frame slot entry = root_word (name.Slot frame slot) entry.word
+abbrev pub slot_root_word : ℕ → ℕ → SlotEntry → RootWord
+slot_root_word frame slot entry = root_word (name.Slot frame slot) entry.word
 
 -- the words of slots
 abbrev pub slot_words : List SlotEntry → List ℕ
@@ -40,25 +40,25 @@ slot_words slots = map (λ (e : SlotEntry). e.word) slots
 -- the slots of frames, of which the first has that number
 abbrev pub slot_roots : ℕ → List (List SlotEntry) → List RootWord
 slot_roots from [] = []
-slot_roots from (slots ∷ frames) = numbered (slot_root from) 0 slots ++ slot_roots (from + 1) frames
+slot_roots from (slots ∷ frames) = with_numbers (slot_root_word from) 0 slots ++ slot_roots (from + 1) frames
 
 -- an owned root without handles names nothing
-abbrev pub owned_root : OwnedEntry → RootWord
-owned_root entry = root_word (name.Owned (owned_id entry.number)) (if entry.handles == 0 then 0 else entry.word)
+abbrev pub owned_root_word : OwnedEntry → RootWord
+owned_root_word entry = root_word (name.Owned (owned_id entry.number)) (if entry.handles == 0 then 0 else entry.word)
 
-abbrev pub scoped_root : ℕ → RootEntry → RootWord
-scoped_root index entry = root_word (name.Scoped index) entry.word
+abbrev pub scoped_root_word : ℕ → RootEntry → RootWord
+scoped_root_word index entry = root_word (name.Scoped index) entry.word
 
 -- the owned and the scoped roots
-abbrev pub handle_roots : List OwnedEntry → List RootEntry → List RootWord
-handle_roots owned scoped = map owned_root owned ++ numbered scoped_root 0 scoped
+abbrev pub handle_root_words : List OwnedEntry → List RootEntry → List RootWord
+handle_root_words owned scoped = map owned_root_word owned ++ with_numbers scoped_root_word 0 scoped
 
 -- The globals; what is pending; the slots of the frames, the oldest frame's first; the owned roots in the order in which
 -- they were made; the scoped roots from the oldest on.
 abbrev pub root_words : {D : Type 0} → StoreView D → List RootWord
 root_words s =
-    numbered global_root 0 s.globals
-    ++ (root_word name.Pending s.pending ∷ (slot_roots 0 s.frames ++ handle_roots s.owned s.scoped))
+    with_numbers global_root_word 0 s.globals
+    ++ (root_word name.Pending s.pending ∷ (slot_roots 0 s.frames ++ handle_root_words s.owned s.scoped))
 
 -- What a new scoped root for the root word of a number answers and leaves, at what stands there. Objects lie where they
 -- lay.

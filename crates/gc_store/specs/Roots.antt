@@ -30,7 +30,7 @@ handle_of s index generation = record {
 }
 
 -- the handle is of the push with that serial
-pub record Names {D : Type 0} (s : StoreView D) (t : Table D) (handle : GcRootIndex) (serial : ℕ) : Type 0 where
+pub record NamesSerial {D : Type 0} (s : StoreView D) (t : Table D) (handle : GcRootIndex) (serial : ℕ) : Type 0 where
   pub push : Push
   pub pushed : slice_get t.pushes serial ≡ Some push
   pub is : handle ≡ handle_of s push.index push.generation
@@ -70,7 +70,7 @@ owned_handle s number = record {
 -- the handle is of a scoped root that stands, and names that reference
 pub record NamesScoped {D : Type 0} (s : StoreView D) (t : Table D) (handle : GcRootIndex) (r : Reference) : Type 0 where
   pub serial : ℕ
-  pub names : Names s t handle serial
+  pub names : NamesSerial s t handle serial
   pub live : rooted t serial ≡ Some r
 
 -- the handle is of an owned root that has handles, and names that reference

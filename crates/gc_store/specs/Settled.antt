@@ -1,16 +1,12 @@
 -- What a collection of a heap that is made leaves of a store beside its table.
-use Rattle.std.specs.Prelude.{◌≡◌, ℕ, ◌<◌, IsTrue, List, map}
+use Rattle.std.specs.Prelude.{◌≡◌, ℕ, ◌<◌, IsTrue}
 use Rattle.std.specs.List.{Contains, flat_map}
 use Rattle.std.specs.FinSet as finset
 use Rattle.gc_types.specs.declared.kind.Layouts.{Layouts}
 use Rattle.gc_types.specs.declared.kind.Layouts.TheVariants.{Counting}
 use Rattle.gc_owner.specs.declared.entry.OwnedEntry.{OwnedEntry}
-use Rattle.gc_owner.specs.declared.entry.SlotEntry.{SlotEntry}
 use Rattle.gc_model.specs.Stores.{StoreView}
-
--- the words of slots
-abbrev pub slot_words : List SlotEntry → List ℕ
-slot_words slots = map (λ (e : SlotEntry). e.word) slots
+use Rattle.gc_store.specs.RootWords.{slot_words}
 
 -- No owned root is left that was given up. In a counting heap nothing is queued, and shown is only what a slot of a
 -- frame names.

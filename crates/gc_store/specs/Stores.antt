@@ -43,7 +43,7 @@ configured config s = record s { first = config.first_pages; max_scoped = config
 
 -- No collection is under way, the store holds some table with some account, its types carry its id, and its open
 -- frames have so many slots each.
-pub record IsSound (D : Type 0) (layouts : Layouts) (counts : List ℕ) (v : OwnerView D) (s : StoreView D) : Type 0 where
+pub record IsSoundStore (D : Type 0) (layouts : Layouts) (counts : List ℕ) (v : OwnerView D) (s : StoreView D) : Type 0 where
   pub idle : v.idle ≡ true
   pub engine : v.types.engine ≡ s.engine
   pub number : v.types.number ≡ s.number

@@ -2,7 +2,7 @@
 
 ghost use Rattle.std.specs.Prelude.{◌≡◌, ◌+◌, ◌<◌, ◌≤◌, ℕ, Bool, true, false};
 ghost use Rattle.gc_model.specs.Stores.{StoreView};
-ghost use Rattle.gc_owner.specs.Owners.{kind_of};
+ghost use Rattle.gc_owner.specs.Owners.{heap_kind};
 ghost use Rattle.gc_owner.specs.Going.{left_of};
 ghost use Rattle.gc_store.specs.Collectings.{IsSpent, spent_from, IsOpen, IsClosed, DoesIncrement, CountsCollection};
 
@@ -33,7 +33,7 @@ impl<H: GcHeap + Drop, D: Drop> Store<H, D> {
         ensures same_reference { result.home.ghost_name ≡ self.entry.ghost_name }
         ensures spent { IsSpent D H.KIND result.home.now }
         ensures place { result.home.now ≡ spent_from self.old }
-        ensures starts { IsOpen (kind_of H.KIND H.seen H.sound H.under_way) self.old 0 true result.inside }
+        ensures starts { IsOpen (heap_kind H.KIND H.seen H.sound H.under_way) self.old 0 true result.inside }
     {
         let spent = Store::spent(self.allocator(), self.id, self.config);
         let inside = Suspended::new(mem::replace(self, spent));
@@ -48,9 +48,9 @@ impl<H: GcHeap + Drop, D: Drop> Guard<'_, Suspended<H, D>> {
         ensures same_reference { self.new.home.ghost_name ≡ self.old.home.ghost_name }
         ensures home { self.new.home.now ≡ self.old.home.now }
         ensures goes { (old : StoreView D) (done : ℕ) (counted : Bool)
-            → IsOpen (kind_of H.KIND H.seen H.sound H.under_way) old done counted self.old.inside
-            → DoesIncrement (kind_of H.KIND H.seen H.sound H.under_way) old (done + 1) self.new.inside result }
-        ensures over { (old : StoreView D) → IsClosed (kind_of H.KIND H.seen H.sound H.under_way) old self.old.inside
+            → IsOpen (heap_kind H.KIND H.seen H.sound H.under_way) old done counted self.old.inside
+            → DoesIncrement (heap_kind H.KIND H.seen H.sound H.under_way) old (done + 1) self.new.inside result }
+        ensures over { (old : StoreView D) → IsClosed (heap_kind H.KIND H.seen H.sound H.under_way) old self.old.inside
             → (result ≡ GcProgress.Complete) × (self.new.inside ≡ self.old.inside) }
         ensures begun { self.new.inside.begun ≡ true }
         ensures less { result ≡ GcProgress.Continue → self.old.inside.begun ≡ true
@@ -64,9 +64,9 @@ impl<H: GcHeap + Drop, D: Drop> Guard<'_, Suspended<H, D>> {
         ensures same_reference { self.new.home.ghost_name ≡ self.old.home.ghost_name }
         ensures home { self.new.home.now ≡ self.old.home.now }
         ensures closes { (old : StoreView D) (done : ℕ) (counted : Bool)
-            → IsOpen (kind_of H.KIND H.seen H.sound H.under_way) old done counted self.old.inside
-            → IsClosed (kind_of H.KIND H.seen H.sound H.under_way) old self.new.inside }
-        ensures over { (old : StoreView D) → IsClosed (kind_of H.KIND H.seen H.sound H.under_way) old self.old.inside
+            → IsOpen (heap_kind H.KIND H.seen H.sound H.under_way) old done counted self.old.inside
+            → IsClosed (heap_kind H.KIND H.seen H.sound H.under_way) old self.new.inside }
+        ensures over { (old : StoreView D) → IsClosed (heap_kind H.KIND H.seen H.sound H.under_way) old self.old.inside
             → self.new.inside ≡ self.old.inside }
     {
         self.inside.collect();
@@ -78,11 +78,11 @@ impl<H: GcHeap + Drop, D: Drop> Guard<'_, Suspended<H, D>> {
         ensures same_reference { self.new.home.ghost_name ≡ self.old.home.ghost_name }
         ensures home { self.new.home.now ≡ self.old.home.now }
         ensures closes { (old : StoreView D) (done : ℕ) (counted : Bool)
-            → IsOpen (kind_of H.KIND H.seen H.sound H.under_way) old done counted self.old.inside
-            → IsClosed (kind_of H.KIND H.seen H.sound H.under_way) old self.new.inside }
-        ensures over { (old : StoreView D) → IsClosed (kind_of H.KIND H.seen H.sound H.under_way) old self.old.inside
+            → IsOpen (heap_kind H.KIND H.seen H.sound H.under_way) old done counted self.old.inside
+            → IsClosed (heap_kind H.KIND H.seen H.sound H.under_way) old self.new.inside }
+        ensures over { (old : StoreView D) → IsClosed (heap_kind H.KIND H.seen H.sound H.under_way) old self.old.inside
             → (self.new.inside ≡ self.old.inside) × (steps.new ≡ steps.old) }
-        ensures counted { (old : StoreView D) → IsOpen (kind_of H.KIND H.seen H.sound H.under_way) old 0 true self.old.inside
+        ensures counted { (old : StoreView D) → IsOpen (heap_kind H.KIND H.seen H.sound H.under_way) old 0 true self.old.inside
             → old.heap.attached ≡ true → CountsCollection H.KIND old 0 steps.old steps.new }
         ensures rises { steps.old ≤ steps.new }
     {

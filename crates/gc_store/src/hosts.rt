@@ -16,7 +16,7 @@ ghost use Rattle.gc_policy.specs.Policy.{policy_state};
 ghost use Rattle.gc_store.specs.Handles.{PushesRoot};
 ghost use Rattle.gc_store.specs.HostLends.{told_of_host, LendsValue};
 ghost use Rattle.gc_store.specs.HostPlaces.{PlacesHost};
-ghost use Rattle.gc_store.specs.HostSteps.{AllocatesHost, MakesHost, TellsHostId, FindsHostId};
+ghost use Rattle.gc_store.specs.HostSteps.{AllocatesRootedHost, MakesRootedHost, TellsHostId, FindsHostId};
 ghost use Rattle.gc_store.specs.Roots.{NamesReference, NamesNothing, is_of_store};
 ghost use Rattle.gc_store.specs.Stores.{IsSameStore, scoped_places};
 
@@ -88,7 +88,7 @@ fn allocate_host<H: GcHeap, D: Drop, L: ResourceLimiter>(
     requires room { 0 < owner.old.seen.roots.spare }
     requires few { length owner.old.seen.roots.scoped < 2 ^ 32 }
     requires hosts { map.len owner.old.seen.hosts < max_entries }
-    ensures { AllocatesHost H.KIND value (state_of owner.old.seen (L.limits limiter.old)) (state_of owner.new.seen (L.limits limiter.new)) result }
+    ensures { AllocatesRootedHost H.KIND value (state_of owner.old.seen (L.limits limiter.old)) (state_of owner.new.seen (L.limits limiter.new)) result }
 {
     owner.is_ready();
     match owner.place_host(limiter, value) {
@@ -115,7 +115,7 @@ fn make_host<H: GcHeap, D: Drop, L: ResourceLimiter>(
     requires room { 0 < owner.old.seen.roots.spare }
     requires few { length owner.old.seen.roots.scoped < 2 ^ 32 }
     requires hosts { map.len owner.old.seen.hosts < max_entries }
-    ensures { MakesHost H.KIND value first_pages is_due (state_of owner.old.seen (L.limits limiter.old))
+    ensures { MakesRootedHost H.KIND value first_pages is_due (state_of owner.old.seen (L.limits limiter.old))
         (state_of owner.new.seen (L.limits limiter.new)) result }
 {
     match owner.make_heap(limiter, first_pages) {
@@ -140,7 +140,7 @@ fn id_of<H: GcHeap>(heap: &H, gc_ref: &VMGcRef) -> Option<ExternRefHostDataId>
 }
 
 impl<H: GcHeap, D: Drop> Store<H, D> {
-    ghost use Rattle.gc_store.specs.HostLends.{lends_value, lends_host};
+    ghost use Rattle.gc_store.specs.HostLends.{store_lends_value, store_lends_host};
 
     /// Places a host object with that value, and pushes a scoped root for it. Refused are, in this order: `RootsFull`
     /// where no further scoped root may be made; `HeapOutOfMemory`, with the value, where the limiter refused the
@@ -207,7 +207,7 @@ impl<H: GcHeap, D: Drop> Store<H, D> {
 
     /// The host value under that id, for writing; None where the id names none.
     fn host_mut(&mut self, id: ExternRefHostDataId) -> Option<&mut D>
-        ensures* writes_back { sem 𝓛 (lends_value H.row D.row H.State.row H.GcHeap self.entry id result) }
+        ensures* writes_back { sem 𝓛 (store_lends_value H.row D.row H.State.row H.GcHeap self.entry id result) }
         ensures value { option_copied_mut result ≡ map.get self.old.hosts id }
     {
         match self.owner.host_mut(id) {
@@ -219,7 +219,7 @@ impl<H: GcHeap, D: Drop> Store<H, D> {
     /// The value of the host object that the handle names, for writing. `WrongStore` where it is another store's handle,
     /// `Unrooted` where it isn't live, `NotHost` where it names no host object.
     pub fn host_data_mut(&mut self, handle: GcRootIndex) -> Result<&mut D, HostDataFault>
-        ensures* writes_back { sem 𝓛 (lends_host H.row D.row H.State.row H.GcHeap self.entry handle result) }
+        ensures* writes_back { sem 𝓛 (store_lends_host H.row D.row H.State.row H.GcHeap self.entry handle result) }
         ensures wrong_store { is_of_store self.old handle ≡ false → IsErrAnd result (λ fault. fault ≡ HostDataFault.WrongStore) }
         ensures live { (t : Table D) (r : Reference) → HoldsTable H.KIND self.old t → NamesReference self.old t handle r
             → LendsValue (host_value_of t r) result }

@@ -4,7 +4,7 @@ ghost use Rattle.std.specs.Prelude.{◌≡◌, ℕ, ◌-◌, ◌^◌, min, true}
 ghost use Rattle.gc_heap.specs.Collection.{Start, IsIncrements};
 ghost use Rattle.gc_model.specs.Table.{Table};
 ghost use Rattle.gc_model.specs.Holds.{HoldsTable};
-ghost use Rattle.gc_owner.specs.Owners.{OwnerValue, Collects, IsEnded, IsUnderWay, kind_of};
+ghost use Rattle.gc_owner.specs.Owners.{OwnerValue, Collects, IsEnded, IsOwnerUnderWay, heap_kind};
 ghost use Rattle.gc_store.specs.Collectings.{IsCollected};
 ghost use Rattle.gc_store.specs.IncrementCounts.{CountsIncrements, TakesIncrements};
 
@@ -14,9 +14,9 @@ use gc_owner::HeapOwner;
 
 /// Does the increments of a collection of which none was done, and says how many there were.
 fn run_increments<H: GcHeap, D: Drop>(owner: &mut HeapOwner<H, D>) -> u64
-    ensures ended { (s : Start) (begun : OwnerValue H H.State D) → IsUnderWay (kind_of H.KIND H.seen H.sound H.under_way) s 0 true begun owner.old
+    ensures ended { (s : Start) (begun : OwnerValue H H.State D) → IsOwnerUnderWay (heap_kind H.KIND H.seen H.sound H.under_way) s 0 true begun owner.old
         → IsEnded H.KIND begun owner.new }
-    ensures counted { (s : Start) (begun : OwnerValue H H.State D) → IsUnderWay (kind_of H.KIND H.seen H.sound H.under_way) s 0 true begun owner.old
+    ensures counted { (s : Start) (begun : OwnerValue H H.State D) → IsOwnerUnderWay (heap_kind H.KIND H.seen H.sound H.under_way) s 0 true begun owner.old
         → (n : ℕ) × (IsIncrements H.KIND s n × (result ≡ min n (2 ^ 64 - 1))) }
 {
     let mut count: u64 = 0;

@@ -6,7 +6,7 @@ ghost use Rattle.gc_model.specs.Table.{Table};
 ghost use Rattle.gc_model.specs.Holds.{Holds, Placing, IsWord};
 ghost use Rattle.gc_policy.specs.Accounts.{Account, IsAccount, HoldsAccount};
 ghost use Rattle.gc_store.specs.Roots.{IsRootWord, is_of_store};
-ghost use Rattle.gc_values.specs.Words.{owned_id, AreRising};
+ghost use Rattle.gc_values.specs.Words.{owned_id, AreOwnedRising};
 ghost use Rattle.gc_values.specs.declared.root.RootSlot.TheVariants as RootSlot;
 ghost use Rattle.gc_store.specs.OwnedRoots.{MakesOwned, AddsHandle, DropsHandle, ReleasesHandle};
 ghost use Rattle.gc_store.specs.OwnedWords.{HoldsThere, IsTrimmed, AddsOwned, OwnsWord, owned_is_full, FindsHeld, FindsHeldNumber, GivesMore};
@@ -47,7 +47,7 @@ fn more_handles(handles: u32) -> Option<u32>
 
 /// Where the owned root of that number stands, if it has handles.
 fn held_index(entries: &[OwnedEntry], number: u64) -> Option<usize>
-    requires rising { AreRising entries.now }
+    requires rising { AreOwnedRising entries.now }
     ensures { FindsHeldNumber entries.now number result }
 {
     match find_owned(entries, number) {

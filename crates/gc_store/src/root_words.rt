@@ -7,7 +7,7 @@ ghost use Rattle.gc_owner.specs.declared.entry.SlotEntry.{SlotEntry};
 ghost use Rattle.gc_model.specs.Table.{Table};
 ghost use Rattle.gc_model.specs.Holds.{Holds, Placing};
 ghost use Rattle.gc_policy.specs.Accounts.{Account, IsAccount};
-ghost use Rattle.gc_store.specs.RootWords.{root_words, slot_words, slot_roots, owned_root, scoped_root, handle_roots, RootsWord};
+ghost use Rattle.gc_store.specs.RootWords.{root_words, slot_words, slot_roots, owned_root_word, scoped_root_word, handle_root_words, RootsWord};
 ghost use Rattle.gc_store.specs.Staying.{OnlyAdds};
 ghost use Rattle.gc_store.specs.Stores.{IsSameStore, scoped_places};
 ghost use Rattle.gc_values.specs.SlotCounts.{slot_counts};
@@ -77,7 +77,7 @@ fn slot_root(counts: &[u32], slots: &[SlotEntry], place: usize) -> Option<RootWo
 
 /// An owned root, which names nothing where it has no handles.
 fn owned_root(entry: &OwnedEntry) -> RootWord
-    ensures { result ≡ owned_root entry.now }
+    ensures { result ≡ owned_root_word entry.now }
 {
     let word = if entry.handles == 0 { 0 } else { entry.word };
     RootWord {
@@ -89,7 +89,7 @@ fn owned_root(entry: &OwnedEntry) -> RootWord
 /// The owned or scoped root of that number, the owned ones first.
 fn handle_root(owned: &[OwnedEntry], scoped: &[RootEntry], number: usize) -> Option<RootWord>
     requires few { length scoped.now ≤ 2 ^ 32 }
-    ensures { result ≡ slice_get (handle_roots owned.now scoped.now) number }
+    ensures { result ≡ slice_get (handle_root_words owned.now scoped.now) number }
 {
     if number < owned.len() {
         return Some(owned_root(&owned[number]));
@@ -107,7 +107,7 @@ fn handle_root(owned: &[OwnedEntry], scoped: &[RootEntry], number: usize) -> Opt
 impl<H: GcHeap, D: Drop> Store<H, D> {
     /// The slot, owned or scoped root of that number, in this order.
     fn slot_or_handle_root(&self, number: usize) -> Option<RootWord>
-        ensures { result ≡ slice_get (slot_roots 0 self.now.frames ++ handle_roots self.now.owned self.now.scoped) number }
+        ensures { result ≡ slice_get (slot_roots 0 self.now.frames ++ handle_root_words self.now.owned self.now.scoped) number }
     {
         self.owner.is_ready();
         let slots = self.owner.slots();

@@ -48,11 +48,11 @@ impl<H: GcHeap, D: Drop> Model for Store<H, D> {
 
     ghost coded = { Prim.hlevel (codes, map.code, D.code) };
 
-    ghost use Rattle.gc_store.specs.Stores.{store_view, tables_of, IsSound};
+    ghost use Rattle.gc_store.specs.Stores.{store_view, tables_of, IsSoundStore};
 
     ghost view = { λ s. store_view s.id s.config (tables_of s.interned s.asked) s.owner.seen s.tries };
 
-    ghost invariant = { λ s. IsSound D H.KIND s.slot_counts.items s.owner.seen (store_view s.id s.config (tables_of s.interned s.asked) s.owner.seen s.tries) };
+    ghost invariant = { λ s. IsSoundStore D H.KIND s.slot_counts.items s.owner.seen (store_view s.id s.config (tables_of s.interned s.asked) s.owner.seen s.tries) };
 }
 
 impl<H: GcHeap + Drop, D: Drop> Store<H, D> {

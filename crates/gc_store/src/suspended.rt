@@ -4,7 +4,7 @@ ghost use Rattle.std.specs.Prelude.{◌≡◌, ◌+◌, ◌<◌, ◌≤◌, ℕ,
 ghost use Rattle.gc_heap.specs.Content.{IsHeap};
 ghost use Rattle.gc_owner.specs.RootColumns.{AreFrames};
 ghost use Rattle.gc_model.specs.Stores.{StoreView};
-ghost use Rattle.gc_owner.specs.Owners.{Trims, kind_of};
+ghost use Rattle.gc_owner.specs.Owners.{Trims, heap_kind};
 ghost use Rattle.gc_owner.specs.Counting.{ticks_of};
 ghost use Rattle.gc_owner.specs.Going.{left_of};
 ghost use Rattle.gc_store.specs.Collectings.{IsOpen, IsClosed, IsRunning, IsAsked, DoesIncrement, GivesStore, CountsCollection};
@@ -81,7 +81,7 @@ fn trim_made<H: GcHeap, D: Drop>(owner: &mut HeapOwner<H, D>)
 impl<H: GcHeap, D: Drop> Suspended<H, D> {
     /// Takes a store whose heap is to be collected. Where the heap is made, its owned roots without handles are dropped.
     pub(crate) fn new(store: Store<H, D>) -> Suspended<H, D>
-        ensures { IsOpen (kind_of H.KIND H.seen H.sound H.under_way) store 0 true result }
+        ensures { IsOpen (heap_kind H.KIND H.seen H.sound H.under_way) store 0 true result }
     {
         let Store {
             id,
@@ -111,11 +111,11 @@ impl<H: GcHeap, D: Drop> Suspended<H, D> {
     fn begin(&mut self)
         ensures idle { self.old.begun ≡ false → self.old.owner.seen.idle ≡ true }
         ensures begun { self.new.begun ≡ true }
-        ensures begins { (old : StoreView D) → IsAsked (kind_of H.KIND H.seen H.sound H.under_way) old self.old
-            → old.heap.attached ≡ true → IsRunning (kind_of H.KIND H.seen H.sound H.under_way) old 0 true self.new }
-        ensures unmade { (old : StoreView D) → IsAsked (kind_of H.KIND H.seen H.sound H.under_way) old self.old
+        ensures begins { (old : StoreView D) → IsAsked (heap_kind H.KIND H.seen H.sound H.under_way) old self.old
+            → old.heap.attached ≡ true → IsRunning (heap_kind H.KIND H.seen H.sound H.under_way) old 0 true self.new }
+        ensures unmade { (old : StoreView D) → IsAsked (heap_kind H.KIND H.seen H.sound H.under_way) old self.old
             → old.heap.attached ≡ false → self.new ≡ record self.old { begun = true } }
-        ensures ticks { (old : StoreView D) → IsAsked (kind_of H.KIND H.seen H.sound H.under_way) old self.old
+        ensures ticks { (old : StoreView D) → IsAsked (heap_kind H.KIND H.seen H.sound H.under_way) old self.old
             → old.heap.attached ≡ true → ticks_of H.ticks self.new.owner.state ≡ 0 }
         ensures same { self.old.begun ≡ true → self.new ≡ self.old }
     {
@@ -130,9 +130,9 @@ impl<H: GcHeap, D: Drop> Suspended<H, D> {
 
     /// Does an increment, with which the collection begins where it wasn't begun, and answers whether it is complete.
     pub(crate) fn increment(&mut self) -> GcProgress
-        ensures goes { (old : StoreView D) (done : ℕ) (counted : Bool) → IsOpen (kind_of H.KIND H.seen H.sound H.under_way) old done counted self.old
-            → DoesIncrement (kind_of H.KIND H.seen H.sound H.under_way) old (done + 1) self.new result }
-        ensures over { (old : StoreView D) → IsClosed (kind_of H.KIND H.seen H.sound H.under_way) old self.old
+        ensures goes { (old : StoreView D) (done : ℕ) (counted : Bool) → IsOpen (heap_kind H.KIND H.seen H.sound H.under_way) old done counted self.old
+            → DoesIncrement (heap_kind H.KIND H.seen H.sound H.under_way) old (done + 1) self.new result }
+        ensures over { (old : StoreView D) → IsClosed (heap_kind H.KIND H.seen H.sound H.under_way) old self.old
             → (result ≡ GcProgress.Complete) × (self.new ≡ self.old) }
         ensures begun { self.new.begun ≡ true }
         ensures less { result ≡ GcProgress.Continue → self.old.begun ≡ true
@@ -144,8 +144,8 @@ impl<H: GcHeap, D: Drop> Suspended<H, D> {
 
     /// Does an increment of the collection that is under way, and answers whether it is complete; with none under way it does nothing.
     fn step(&mut self) -> GcProgress
-        ensures goes { (old : StoreView D) (done : ℕ) (counted : Bool) → IsRunning (kind_of H.KIND H.seen H.sound H.under_way) old done counted self.old
-            → DoesIncrement (kind_of H.KIND H.seen H.sound H.under_way) old (done + 1) self.new result }
+        ensures goes { (old : StoreView D) (done : ℕ) (counted : Bool) → IsRunning (heap_kind H.KIND H.seen H.sound H.under_way) old done counted self.old
+            → DoesIncrement (heap_kind H.KIND H.seen H.sound H.under_way) old (done + 1) self.new result }
         ensures none { self.old.owner.seen.idle ≡ true → (result ≡ GcProgress.Complete) × (self.new ≡ self.old) }
         ensures begun { self.new.begun ≡ self.old.begun }
         ensures less { result ≡ GcProgress.Continue
@@ -156,9 +156,9 @@ impl<H: GcHeap, D: Drop> Suspended<H, D> {
 
     /// Runs the collection to its end.
     pub(crate) fn collect(&mut self)
-        ensures closes { (old : StoreView D) (done : ℕ) (counted : Bool) → IsOpen (kind_of H.KIND H.seen H.sound H.under_way) old done counted self.old
-            → IsClosed (kind_of H.KIND H.seen H.sound H.under_way) old self.new }
-        ensures over { (old : StoreView D) → IsClosed (kind_of H.KIND H.seen H.sound H.under_way) old self.old → self.new ≡ self.old }
+        ensures closes { (old : StoreView D) (done : ℕ) (counted : Bool) → IsOpen (heap_kind H.KIND H.seen H.sound H.under_way) old done counted self.old
+            → IsClosed (heap_kind H.KIND H.seen H.sound H.under_way) old self.new }
+        ensures over { (old : StoreView D) → IsClosed (heap_kind H.KIND H.seen H.sound H.under_way) old self.old → self.new ≡ self.old }
     {
         self.begin();
         self.finish();
@@ -166,8 +166,8 @@ impl<H: GcHeap, D: Drop> Suspended<H, D> {
 
     /// Does the increments that the collection that is under way has left; with none under way it does nothing.
     fn finish(&mut self)
-        ensures ends { (old : StoreView D) (done : ℕ) (counted : Bool) → IsRunning (kind_of H.KIND H.seen H.sound H.under_way) old done counted self.old
-            → IsClosed (kind_of H.KIND H.seen H.sound H.under_way) old self.new }
+        ensures ends { (old : StoreView D) (done : ℕ) (counted : Bool) → IsRunning (heap_kind H.KIND H.seen H.sound H.under_way) old done counted self.old
+            → IsClosed (heap_kind H.KIND H.seen H.sound H.under_way) old self.new }
         ensures none { self.old.owner.seen.idle ≡ true → self.new ≡ self.old }
     {
         self.owner.finish();
@@ -175,11 +175,11 @@ impl<H: GcHeap, D: Drop> Suspended<H, D> {
 
     /// Runs the collection to its end, and counts its steps.
     pub(crate) fn collect_counted<G: Ledger>(&mut self, steps: &mut Steps<G>)
-        ensures closes { (old : StoreView D) (done : ℕ) (counted : Bool) → IsOpen (kind_of H.KIND H.seen H.sound H.under_way) old done counted self.old
-            → IsClosed (kind_of H.KIND H.seen H.sound H.under_way) old self.new }
-        ensures over { (old : StoreView D) → IsClosed (kind_of H.KIND H.seen H.sound H.under_way) old self.old
+        ensures closes { (old : StoreView D) (done : ℕ) (counted : Bool) → IsOpen (heap_kind H.KIND H.seen H.sound H.under_way) old done counted self.old
+            → IsClosed (heap_kind H.KIND H.seen H.sound H.under_way) old self.new }
+        ensures over { (old : StoreView D) → IsClosed (heap_kind H.KIND H.seen H.sound H.under_way) old self.old
             → (self.new ≡ self.old) × (steps.new ≡ steps.old) }
-        ensures counted { (old : StoreView D) → IsOpen (kind_of H.KIND H.seen H.sound H.under_way) old 0 true self.old → old.heap.attached ≡ true
+        ensures counted { (old : StoreView D) → IsOpen (heap_kind H.KIND H.seen H.sound H.under_way) old 0 true self.old → old.heap.attached ≡ true
             → CountsCollection H.KIND old 0 steps.old steps.new }
         ensures rises { steps.old ≤ steps.new }
     {
@@ -189,10 +189,10 @@ impl<H: GcHeap, D: Drop> Suspended<H, D> {
 
     /// Does the increments that the collection that is under way has left, and counts their steps; with none under way it does nothing.
     fn finish_counted<G: Ledger>(&mut self, steps: &mut Steps<G>)
-        ensures ends { (old : StoreView D) (done : ℕ) (counted : Bool) → IsRunning (kind_of H.KIND H.seen H.sound H.under_way) old done counted self.old
-            → IsClosed (kind_of H.KIND H.seen H.sound H.under_way) old self.new }
+        ensures ends { (old : StoreView D) (done : ℕ) (counted : Bool) → IsRunning (heap_kind H.KIND H.seen H.sound H.under_way) old done counted self.old
+            → IsClosed (heap_kind H.KIND H.seen H.sound H.under_way) old self.new }
         ensures none { self.old.owner.seen.idle ≡ true → (self.new ≡ self.old) × (steps.new ≡ steps.old) }
-        ensures counted { (old : StoreView D) (done : ℕ) → IsRunning (kind_of H.KIND H.seen H.sound H.under_way) old done true self.old
+        ensures counted { (old : StoreView D) (done : ℕ) → IsRunning (heap_kind H.KIND H.seen H.sound H.under_way) old done true self.old
             → CountsCollection H.KIND old (ticks_of H.ticks self.old.owner.state) steps.old steps.new }
         ensures rises { steps.old ≤ steps.new }
     {
@@ -201,7 +201,7 @@ impl<H: GcHeap, D: Drop> Suspended<H, D> {
 
     /// The store, once the collection that is under way has ended; one that wasn't begun isn't run.
     fn into_store(self) -> Store<H, D>
-        ensures { GivesStore (kind_of H.KIND H.seen H.sound H.under_way) self result }
+        ensures { GivesStore (heap_kind H.KIND H.seen H.sound H.under_way) self result }
     {
         let Suspended {
             id,
@@ -231,7 +231,7 @@ impl<H: GcHeap, D: Drop> Suspended<H, D> {
 impl<H: GcHeap + Drop, D: Drop> Suspends for Suspended<H, D> {
     type Home = Store<H, D>;
 
-    ghost Gives = { λ c s. GivesStore (kind_of H.KIND H.seen H.sound H.under_way) c s };
+    ghost Gives = { λ c s. GivesStore (heap_kind H.KIND H.seen H.sound H.under_way) c s };
 
     fn give_back(self) -> Store<H, D> {
         self.into_store()

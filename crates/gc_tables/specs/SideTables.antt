@@ -31,7 +31,7 @@ abbrev pub entry_count : {T : Type 0} → SideTable T → ℕ
 entry_count t = map.len t.entries
 
 -- Room is made for so many more entries, which stay as they are: where there was enough, memory can't be wanting.
-pub record MakesRoom {T E : Type 0} (old new : SideTable T) (additional : ℕ) (result : Result (Unit {0}) E) : Type 0 where
+pub record ReservesEntries {T E : Type 0} (old new : SideTable T) (additional : ℕ) (result : Result (Unit {0}) E) : Type 0 where
   pub entries : new.entries ≡ old.entries
   pub room : OnOk result (additional ≤ new.spare)
   pub succeeds : additional ≤ old.spare → IsOk result

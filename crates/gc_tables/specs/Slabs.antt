@@ -12,5 +12,5 @@ module _ {T : Type 0} where
   returned (Memory value) = value
 
   -- the table after a write through `get_mut(id)`
-  abbrev pub with_value : SideTable T → ℕ → T → SideTable T
-  with_value t id value = record t { entries = map.insert t.entries id value }
+  abbrev pub with_slab_entry : SideTable T → ℕ → T → SideTable T
+  with_slab_entry t id value = record t { entries = map.insert t.entries id value }

@@ -1,9 +1,9 @@
 //! The table of continuations.
 
-ghost use Rattle.std.specs.Prelude.{◌≡◌, ◌↔◌, ◌+◌, ◌-◌, ◌<◌, ◌≤◌, ℕ, Some, None, IsSome, IfSome, IfOk, OnOk, OnErr, IsOk, Ok, IsNone, IsErrOf};
+ghost use Rattle.std.specs.Prelude.{◌≡◌, ◌↔◌, ◌+◌, ◌-◌, ◌<◌, ◌≤◌, ℕ, Some, None, IsSome, IfSome, IfOk, OnErr, IsOk, Ok, IsNone, IsErrOf};
 ghost use Rattle.std.specs.Option.{ForSome};
 ghost use Rattle.std.specs.FinMap as map;
-ghost use Rattle.gc_tables.specs.SideTables.{SideTable, max_entries, value_at, entry_count, MakesRoom};
+ghost use Rattle.gc_tables.specs.SideTables.{SideTable, max_entries, value_at, entry_count, ReservesEntries};
 ghost use Rattle.gc_tables.specs.Interned.{IsInterned, IsIdOf, Interns};
 ghost use Rattle.gc_tables.specs.Conts.{cont_at};
 
@@ -111,7 +111,7 @@ impl ContRefTable {
 
     /// Makes room: as many calls of `intern` can't want memory.
     pub fn reserve(&mut self, additional: usize) -> Result<(), AllocError>
-        ensures { MakesRoom self.old self.new additional result }
+        ensures { ReservesEntries self.old self.new additional result }
     {
         self.interner.reserve(additional)
     }

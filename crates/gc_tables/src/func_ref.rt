@@ -1,9 +1,9 @@
 //! The table of functions.
 
-ghost use Rattle.std.specs.Prelude.{ℕ, ◌≡◌, ◌⊎◌, ◌↔◌, ◌+◌, ◌<◌, ◌≤◌, Some, None, IsSome, IfSome, IfOk, OnOk, OnErr, IsOk, IsNone, IsErrOf};
+ghost use Rattle.std.specs.Prelude.{ℕ, ◌≡◌, ◌⊎◌, ◌↔◌, ◌+◌, ◌<◌, ◌≤◌, Some, None, IsSome, IfSome, IfOk, OnErr, IsOk, IsNone, IsErrOf};
 ghost use Rattle.std.specs.Option.{IsSomeAnd};
 ghost use Rattle.std.specs.FinMap as map;
-ghost use Rattle.gc_tables.specs.SideTables.{SideTable, max_entries, value_at, entry_count, MakesRoom};
+ghost use Rattle.gc_tables.specs.SideTables.{SideTable, max_entries, value_at, entry_count, ReservesEntries};
 ghost use Rattle.gc_tables.specs.Interned.{IsInterned, IsIdOf, Interns};
 ghost use Rattle.gc_tables.specs.Funcs.{FitsType};
 
@@ -176,7 +176,7 @@ impl FuncRefTable {
 
     /// Makes room: as many calls of `intern` can't want memory.
     pub fn reserve(&mut self, additional: usize) -> Result<(), AllocError>
-        ensures { MakesRoom self.old self.new additional result }
+        ensures { ReservesEntries self.old self.new additional result }
     {
         self.interner.reserve(additional)
     }

@@ -1,8 +1,8 @@
 //! A table in which each value stands once.
 
-ghost use Rattle.std.specs.Prelude.{ℕ, ◌≡◌, ◌↔◌, ◌+◌, ◌<◌, ◌≤◌, IsSome, IfSome, IfOk, OnOk, OnErr, IsOk, IsNone, IsErrOf, IsTrue, option_copied};
+ghost use Rattle.std.specs.Prelude.{ℕ, ◌≡◌, ◌↔◌, ◌+◌, ◌<◌, ◌≤◌, IsSome, IfSome, IfOk, OnErr, IsOk, IsNone, IsErrOf, IsTrue};
 ghost use Rattle.std.specs.FinMap as map;
-ghost use Rattle.gc_tables.specs.SideTables.{SideTable, max_entries, value_at, entry_count, MakesRoom};
+ghost use Rattle.gc_tables.specs.SideTables.{SideTable, max_entries, value_at, entry_count, ReservesEntries};
 ghost use Rattle.gc_tables.specs.Interned.{IsInterned, IsIdOf, Interns};
 
 use crate::id::Id;
@@ -131,7 +131,7 @@ impl<K: Exact> Interner<K> {
     }
 
     pub(crate) fn reserve(&mut self, additional: usize) -> Result<(), AllocError>
-        ensures { MakesRoom self.old self.new additional result }
+        ensures { ReservesEntries self.old self.new additional result }
     {
         self.values.reserve(additional)?;
         self.ids.reserve(additional)

@@ -1,11 +1,11 @@
 //! A slab: values of one type, each under an id that the slab picks.
 
-ghost use Rattle.std.specs.Prelude.{ℕ, ◌≡◌, ◌≢◌, ◌↔◌, ◌+◌, ◌<◌, ◌≤◌, None, Some, Err, IsTrue, IsOk, IfOk, OnOk, OnErr, IfErr, IfNone, IsSome, option_copied};
+ghost use Rattle.std.specs.Prelude.{ℕ, ◌≡◌, ◌≢◌, ◌↔◌, ◌+◌, ◌<◌, ◌≤◌, None, Some, Err, IsTrue, IfOk, OnErr, IfErr, IfNone, IsSome, option_copied};
 ghost use Rattle.std.specs.Prelude.{slice_index_or, map as list_map};
 ghost use Rattle.std.specs.Option.{option_copied_mut};
 ghost use Rattle.std.specs.FinMap as map;
 ghost use Rattle.std.specs.Borrow.{Lends, sem};
-ghost use Rattle.gc_tables.specs.SideTables.{SideTable, max_entries, value_at, entry_count, MakesRoom};
+ghost use Rattle.gc_tables.specs.SideTables.{SideTable, max_entries, value_at, entry_count, ReservesEntries};
 ghost use Rattle.gc_tables.specs.Slabs.{returned};
 ghost use Rattle.gc_tables.specs.Slots.{value_of};
 
@@ -132,7 +132,7 @@ impl<T> Slab<T> {
 
     /// Makes room: as many calls of `alloc` can't want memory, whatever is deallocated between them.
     pub fn reserve(&mut self, additional: usize) -> Result<(), AllocError>
-        ensures { MakesRoom self.old self.new additional result }
+        ensures { ReservesEntries self.old self.new additional result }
     {
         let free = self.entries.len() - self.len as usize;
         self.entries.reserve(additional.saturating_sub(free))

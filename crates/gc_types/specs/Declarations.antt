@@ -119,8 +119,8 @@ abbrev pub max_types : ℕ
 max_types = 4294967295
 
 -- the table with one more declaration
-abbrev pub declare : Declaration → TypeTable → TypeTable
-declare d table = record table { declarations = table.declarations ++ d ∷ [] }
+abbrev pub with_declaration : Declaration → TypeTable → TypeTable
+with_declaration d table = record table { declarations = table.declarations ++ d ∷ [] }
 
 -- what a type value tells: its table's id and its index
 pub record TypeName : Type 0 where

@@ -2,7 +2,7 @@
 
 ghost use Rattle.std.specs.Prelude.{[], ◌↔◌, IsTrue, ◌≡◌, length, IfOk, OnOk, OnErr, option_copied, option_map, slice_get, IsErrOf, IfSome, IsSome, Some};
 ghost use Rattle.std.specs.Option.{option_and_then};
-ghost use Rattle.gc_types.specs.Declarations.{declare, struct_type, array_type, exn_type, func_type, fields_at, struct_fields_at, elem_at, kind_at, supertype_at, is_final_at};
+ghost use Rattle.gc_types.specs.Declarations.{with_declaration, struct_type, array_type, exn_type, func_type, fields_at, struct_fields_at, elem_at, kind_at, supertype_at, is_final_at};
 ghost use Rattle.gc_types.specs.Declarable.{Declarable, AreDeclared, ExnIsFinal, HasFewFields};
 ghost use Rattle.gc_types.specs.Subtyping.{supertypes_of, Meets, MatchesRef, MatchesVal, MatchesField};
 ghost use Rattle.gc_types.specs.Layouts.{struct_layout, layout_at, array_layout_at, trace_at};
@@ -96,7 +96,7 @@ impl Types {
         supertype: Option<VMSharedTypeIndex>,
         is_final: bool,
     ) -> Result<StructType, TypeFault>
-        ensures declared { OnOk result (self.new ≡ declare (struct_type fields.now supertype is_final) self.old) }
+        ensures declared { OnOk result (self.new ≡ with_declaration (struct_type fields.now supertype is_final) self.old) }
         ensures named { IfOk result (λ ty. ty ≡ record { engine = self.old.engine; number = self.old.number; index = length self.old.declarations }) }
         ensures declarable { OnOk result (Declarable self.old.declarations (struct_type fields.now supertype is_final)) }
         ensures bad { IsErrOf result TypeFault.BadType → ¬ Declarable self.old.declarations (struct_type fields.now supertype is_final) }
@@ -118,7 +118,7 @@ impl Types {
         supertype: Option<VMSharedTypeIndex>,
         is_final: bool,
     ) -> Result<ArrayType, TypeFault>
-        ensures declared { OnOk result (self.new ≡ declare (array_type elem supertype is_final) self.old) }
+        ensures declared { OnOk result (self.new ≡ with_declaration (array_type elem supertype is_final) self.old) }
         ensures named { IfOk result (λ ty. ty ≡ record { engine = self.old.engine; number = self.old.number; index = length self.old.declarations }) }
         ensures declarable { OnOk result (Declarable self.old.declarations (array_type elem supertype is_final)) }
         ensures bad { IsErrOf result TypeFault.BadType → ¬ Declarable self.old.declarations (array_type elem supertype is_final) }
@@ -132,7 +132,7 @@ impl Types {
     /// Declares an exception with these parameters, which are its fields and constant. It has no
     /// supertype and is final. `BadType` as in `declare_struct`.
     pub fn declare_exn(&mut self, params: &[ValType]) -> Result<ExnType, TypeFault>
-        ensures declared { OnOk result (self.new ≡ declare (exn_type params.now) self.old) }
+        ensures declared { OnOk result (self.new ≡ with_declaration (exn_type params.now) self.old) }
         ensures named { IfOk result (λ ty. ty ≡ record { engine = self.old.engine; number = self.old.number; index = length self.old.declarations }) }
         ensures declarable { OnOk result (Declarable self.old.declarations (exn_type params.now)) }
         ensures bad { IsErrOf result TypeFault.BadType → ¬ Declarable self.old.declarations (exn_type params.now) }
@@ -156,7 +156,7 @@ impl Types {
         supertype: Option<VMSharedTypeIndex>,
         is_final: bool,
     ) -> Result<FuncType, TypeFault>
-        ensures declared { OnOk result (self.new ≡ declare (func_type params.now results.now supertype is_final) self.old) }
+        ensures declared { OnOk result (self.new ≡ with_declaration (func_type params.now results.now supertype is_final) self.old) }
         ensures named { IfOk result (λ ty. ty ≡ record { engine = self.old.engine; number = self.old.number; index = length self.old.declarations }) }
         ensures declarable { OnOk result (Declarable self.old.declarations (func_type params.now results.now supertype is_final)) }
         ensures bad { IsErrOf result TypeFault.BadType → ¬ Declarable self.old.declarations (func_type params.now results.now supertype is_final) }
@@ -174,7 +174,7 @@ impl Types {
     fn declare(&mut self, new: Declared) -> Result<VMSharedTypeIndex, TypeFault>
         requires few_fields { HasFewFields new.shape }
         requires exn_is_final { ExnIsFinal new.shape new.is_final }
-        ensures declared { OnOk result (self.new ≡ declare new self.old) }
+        ensures declared { OnOk result (self.new ≡ with_declaration new self.old) }
         ensures index { IfOk result (λ index. index ≡ length self.old.declarations) }
         ensures declarable { OnOk result (Declarable self.old.declarations new) }
         ensures bad { IsErrOf result TypeFault.BadType → ¬ Declarable self.old.declarations new }

@@ -41,9 +41,9 @@ use Rattle.gc_values.specs.declared.root.RootSlot.TheVariants as slot
 use Rattle.gc_values.specs.declared.root.RootFault.TheVariants as fault
 use Rattle.gc_values.specs.Words.{HandleRoots, handle_roots, root_word_at, entry_word, owned_id, owned_word, owned_at}
 use Rattle.gc_values.proofs.OwnedWords.{owned_there, owned_word-ok, tested-ok}
-use Rattle.gc_values.specs.Kept.{code_of, KeptAs, IsKept, raw_form, form_width, FitsForm, OfForm, StoredStands}
-use Rattle.gc_values.specs.HeldSlots.{storage_slot, HasSlot, FindsSlot, IsHeldOf, CanWriteSlot, WritesAt}
-use Rattle.gc_values.specs.Filling.{EachFits, EachStands, IsToFill, Rewrites, Fills, slot_bytes}
+use Rattle.gc_values.specs.Kept.{kept_code, KeptAs, CanBeKept, raw_form, form_width, FitsForm, OfForm, StoredStands}
+use Rattle.gc_values.specs.HeldSlots.{storage_slot, HasStorageSlot, FindsSlot, IsHeldOf, CanWriteSlot, WritesAt}
+use Rattle.gc_values.specs.Filling.{EachFits, EachStands, IsToFill, Rewrites, FillsSlots, slot_bytes}
 use Rattle.gc_values.proofs.Rewriting.{rewrites-nothing, rewrites-more, held_again}
 use Rattle.gc_values.proofs.SlotPlaces.{first_above, bytes_reach, slot_lies, held_size_is, held_small}
 use Rattle.gc_values.proofs.SlotWrites.{length-low}
@@ -129,12 +129,12 @@ storage_form_width (storage.ValType val.V128) = refl
 storage_form_width (storage.ValType (val.Ref ty)) = top_width (heap_top ty.heap_type)
 
 -- The low bytes of what is kept are those of the value that a slot keeps.
-pub kept_encoded : (ids : InternedIds) (names : Names) (entries : HandleRoots) (ty : StorageType) (r : RawValue) (w : Value) (x : Stored) → StoredStands ids names entries ty r w → KeptAs ids entries r x → FitsForm (raw_form r) (code_of x)
-    → IsEncodedAs names ty w (slot_bytes ty (code_of x))
+pub kept_encoded : (ids : InternedIds) (names : Names) (entries : HandleRoots) (ty : StorageType) (r : RawValue) (w : Value) (x : Stored) → StoredStands ids names entries ty r w → KeptAs ids entries r x → FitsForm (raw_form r) (kept_code x)
+    → IsEncodedAs names ty w (slot_bytes ty (kept_code x))
 kept_encoded ids names entries ty r w x stands is small =
     let width : form_width (raw_form r) ≡ value_width (unpacked ty) = ap form_width stands.raw_form_is ∙ storage_form_width ty in
-    subst (λ (v : Value). IsEncodedAs names ty v (slot_bytes ty (code_of x))) (sym stands.stored_is)
-    (stored_encoded names ty stands.value (code_of x) stands.form (stands.stands x is small) (subst (λ (n : ℕ). code_of x < 256 ^ n) width small))
+    subst (λ (v : Value). IsEncodedAs names ty v (slot_bytes ty (kept_code x))) (sym stands.stored_is)
+    (stored_encoded names ty stands.value (kept_code x) stands.form (stands.stands x is small) (subst (λ (n : ℕ). kept_code x < 256 ^ n) width small))
 
 -- no more slots than bytes
 spaced_count : (from to : ℕ) (slots : List StorageSlot) → AreSpaced from slots to → from + length slots ≤ to
@@ -189,7 +189,7 @@ module _ {D : Type 0} (layouts : Layouts) (ids : InternedIds) (raws : List RawVa
     declared_here = subst (λ (t : ℕ). shape_at new.types.declarations t ≡ Some shape) f.of_type held_now.declared
 
     -- the type table has it, below 2 ^ 32
-    pub has_slot : HasSlot layouts new.types.declarations ty k
+    pub has_slot : HasStorageSlot layouts new.types.declarations ty k
     has_slot = record {
       shape = shape;
       declared = declared_here;
@@ -209,8 +209,8 @@ module _ {D : Type 0} (layouts : Layouts) (ids : InternedIds) (raws : List RawVa
         let end = held_small layouts new.heap place now heap held_now.held in
         omega (arith, below, count_is, reach, end, held_size_is layouts now shape count held_now.has)
 
-    pub is_kept : IsKept ids (handle_roots new.roots) r
-    is_kept = subst (λ (es : HandleRoots). IsKept ids es r) (sym same_roots) (f.fit.kept k r r_is)
+    pub is_kept : CanBeKept ids (handle_roots new.roots) r
+    is_kept = subst (λ (es : HandleRoots). CanBeKept ids es r) (sym same_roots) (f.fit.kept k r r_is)
 
     -- what the type table finds is that slot
     pub slot_found : (found : Slot) → FindsSlot layouts new.types.declarations ty k found → storage_slot found ≡ slot_here.0
@@ -229,13 +229,13 @@ module _ {D : Type 0} (layouts : Layouts) (ids : InternedIds) (raws : List RawVa
       }
 
       -- one more value was written
-      pub fills-more : FitsForm (raw_form r) (code_of x) → (after : OwnerView D) → WritesAt layouts new after place slot_here.0.offset (slot_bytes slot_here.0.storage (code_of x)) → FillsTo layouts ids raws old after place before shape count (k + 1)
+      pub fills-more : FitsForm (raw_form r) (kept_code x) → (after : OwnerView D) → WritesAt layouts new after place slot_here.0.offset (slot_bytes slot_here.0.storage (kept_code x)) → FillsTo layouts ids raws old after place before shape count (k + 1)
       fills-more small after did =
           let s : StorageSlot = slot_here.0 in
-          let ws : List ℕ = slot_bytes s.storage (code_of x) in
+          let ws : List ℕ = slot_bytes s.storage (kept_code x) in
           let above = first_above layouts now shape count held_now.has in
           let range = slot_lies layouts new.types.declarations new.heap place now shape count held_now (can.traced place now held_now.held) k s slot_here.1 in
-          let wide = length-low 0 (storage_width s.storage) (code_of x) in
+          let wide = length-low 0 (storage_width s.storage) (kept_code x) in
           record {
             bytes = put_bytes w.bytes (s.offset - base) ws;
             rewrites = rewrites-more layouts shape old place before f.is.held new after w.bytes s.offset ws above range.low (omega (arith, range.low, range.high, above, reach, wide)) w.rewrites did;
@@ -247,7 +247,7 @@ module _ {D : Type 0} (layouts : Layouts) (ids : InternedIds) (raws : List RawVa
           }
 
   -- all values are written
-  pub fills-all : (new : OwnerView D) (k : ℕ) → k ≡ length raws → FillsTo layouts ids raws old new place before shape count k → Fills layouts (EachStands ids raws) old new place before shape count
+  pub fills-all : (new : OwnerView D) (k : ℕ) → k ≡ length raws → FillsTo layouts ids raws old new place before shape count k → FillsSlots layouts (EachStands ids raws) old new place before shape count
   fills-all new k all w = record {
     bytes = w.bytes;
     rewrites = w.rewrites;

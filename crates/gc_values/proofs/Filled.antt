@@ -27,9 +27,9 @@ use Rattle.gc_model.proofs.ObjectShapes.{shape_at, element_slot_at}
 use Rattle.gc_values.specs.declared.slot.Slot.{Slot}
 use Rattle.gc_values.specs.declared.stored.Stored.{Stored}
 use Rattle.gc_values.specs.declared.root.RawValue.{RawValue}
-use Rattle.gc_values.specs.Kept.{code_of, KeptAs, raw_form, FitsForm}
-use Rattle.gc_values.specs.HeldSlots.{storage_slot, HasSlot, FindsSlot}
-use Rattle.gc_values.specs.Filling.{SameFits, SameStands, BytesFit, BytesStand, IsToFill, Fills, AreElements, FillsElements}
+use Rattle.gc_values.specs.Kept.{kept_code, KeptAs, raw_form, FitsForm}
+use Rattle.gc_values.specs.HeldSlots.{storage_slot, HasStorageSlot, FindsSlot}
+use Rattle.gc_values.specs.Filling.{SameFits, SameStands, BytesFit, BytesStand, IsToFill, FillsSlots, AreElements, FillsElements}
 use Rattle.gc_values.proofs.EachValue.{are_words, kept_of_form, kept_encoded}
 use Rattle.gc_values.proofs.Rewriting.{rewrites-nothing, rewrites-more}
 use Rattle.gc_values.proofs.SlotPlaces.{first_above, bytes_reach, bytes_place, held_size_is, held_small}
@@ -45,7 +45,7 @@ nothing_lies names base slots values bytes none same = record {
 -- an array of no elements is filled as it is
 pub nothing_filled : {D : Type 0} (layouts : Layouts) (v : OwnerView D) (place ty : ℕ) (Fit : HandleRoots → List StorageSlot → Type 0) (Stand : Names → HandleRoots → List StorageSlot → List Value → Type 0) (object : HeapObject) (shape : Shape) (n : ℕ)
     → IsToFill layouts v place ty Fit object shape n → shape_slots layouts shape n ≡ []
-    → ((names : Names) (values : List Value) → Stand names (handle_roots v.roots) (shape_slots layouts shape n) values → length values ≡ length (shape_slots layouts shape n)) → Fills layouts Stand v v place object shape n
+    → ((names : Names) (values : List Value) → Stand names (handle_roots v.roots) (shape_slots layouts shape n) values → length values ≡ length (shape_slots layouts shape n)) → FillsSlots layouts Stand v v place object shape n
 nothing_filled layouts v place ty Fit Stand object shape n f none same = record {
   bytes = object.bytes;
   rewrites = rewrites-nothing layouts shape v place object f.is.held;
@@ -60,7 +60,7 @@ same_length : (ids : InternedIds) (r : RawValue) (names : Names) (entries : Hand
 same_length ids r names entries slots values stands = ap (λ (vs : List Value). length vs) stands.values_are ∙ length-replicate (length slots) stands.kept
 
 pub none_filled : {D : Type 0} (layouts : Layouts) (v : OwnerView D) (place ty : ℕ) (ids : InternedIds) (r : RawValue) (count : ℕ) (object : HeapObject) (shape : Shape) (n : ℕ) → IsToFill layouts v place ty (SameFits ids r count) object shape n → count ≡ 0
-    → Fills layouts (SameStands ids r) v v place object shape n
+    → FillsSlots layouts (SameStands ids r) v v place object shape n
 none_filled layouts v place ty ids r count object shape n f none =
     nothing_filled layouts v place ty (SameFits ids r count) (SameStands ids r) object shape n f (f.fit.slots_are ∙ no_elements f.fit.ty count f.fit.from none)
     (λ names values. same_length ids r names (handle_roots v.roots) (shape_slots layouts shape n) values)
@@ -84,7 +84,7 @@ module _ {D : Type 0} (layouts : Layouts) (v : OwnerView D) (place ty : ℕ) (id
   declared_here : shape_at v.types.declarations ty ≡ Some shape
   declared_here = subst (λ (t : ℕ). shape_at v.types.declarations t ≡ Some shape) f.of_type f.is.declared
 
-  pub has_first : IsHeap layouts v.heap → HasSlot layouts v.types.declarations ty 0
+  pub has_first : IsHeap layouts v.heap → HasStorageSlot layouts v.types.declarations ty 0
   has_first heap = record {
     shape = shape;
     declared = declared_here;
@@ -113,7 +113,7 @@ module _ {D : Type 0} (layouts : Layouts) (v : OwnerView D) (place ty : ℕ) (id
       of_form = kept_of_form v.heap ids (handle_roots v.roots) f.fit.ty r x (are_words layouts v can) (f.fit.form some) x_is;
     }
 
-    pub same_filled : (new : OwnerView D) → FitsForm (raw_form r) (code_of x) → FillsElements layouts v new place first count x are_elements → Fills layouts (SameStands ids r) v new place object shape n
+    pub same_filled : (new : OwnerView D) → FitsForm (raw_form r) (kept_code x) → FillsElements layouts v new place first count x are_elements → FillsSlots layouts (SameStands ids r) v new place object shape n
     same_filled new small filled = record {
       bytes = filled.bytes;
       rewrites = filled.rewrites;
@@ -131,7 +131,7 @@ bytes_length bs names entries slots values fit stands =
     ap (λ (vs : List Value). length vs) stands ∙ length-map bs byte_value ∙ sym (ap (λ (ss : List StorageSlot). length ss) fit.slots_are ∙ length-element_slots storage.I8 (length bs) fit.from)
 
 pub no_bytes_filled : {D : Type 0} (layouts : Layouts) (v : OwnerView D) (place ty : ℕ) (bs : List ℕ) (object : HeapObject) (shape : Shape) (n : ℕ) → IsToFill layouts v place ty (BytesFit bs) object shape n → length bs ≡ 0
-    → Fills layouts (BytesStand bs) v v place object shape n
+    → FillsSlots layouts (BytesStand bs) v v place object shape n
 no_bytes_filled layouts v place ty bs object shape n f none =
     nothing_filled layouts v place ty (BytesFit bs) (BytesStand bs) object shape n f (f.fit.slots_are ∙ no_elements storage.I8 (length bs) f.fit.from none)
     (λ names values. bytes_length bs names (handle_roots v.roots) (shape_slots layouts shape n) values f.fit)
@@ -162,7 +162,7 @@ module _ {D : Type 0} (layouts : Layouts) (v : OwnerView D) (place ty : ℕ) (bs
   type_here : shape_at v.types.declarations ty ≡ Some shape
   type_here = subst (λ (t : ℕ). shape_at v.types.declarations t ≡ Some shape) f.of_type f.is.declared
 
-  pub has_byte : IsHeap layouts v.heap → HasSlot layouts v.types.declarations ty 0
+  pub has_byte : IsHeap layouts v.heap → HasStorageSlot layouts v.types.declarations ty 0
   has_byte heap = record {
     shape = shape;
     declared = type_here;
@@ -179,7 +179,7 @@ module _ {D : Type 0} (layouts : Layouts) (v : OwnerView D) (place ty : ℕ) (bs
   pub bytes_go : IsNumberPlace layouts v place from (length bs)
   bytes_go = bytes_place layouts v place object shape n f.is can (ap slot_offsets f.fit.slots_are ∙ elements_not_followed storage.I8 (length bs) from refl) from (length bs) bytes_low bytes_high
 
-  pub bytes_filled : (new : OwnerView D) → WritesBytes layouts v new place from bs → Fills layouts (BytesStand bs) v new place object shape n
+  pub bytes_filled : (new : OwnerView D) → WritesBytes layouts v new place from bs → FillsSlots layouts (BytesStand bs) v new place object shape n
   bytes_filled new did =
       let base : ℕ = struct_base layouts in
       let above = first_above layouts object shape n f.is.has in

@@ -14,7 +14,7 @@ use Rattle.gc_values.specs.declared.root.RawValue.{RawValue}
 use Rattle.gc_values.specs.declared.root.RawValue.TheVariants as raw
 use Rattle.gc_values.specs.declared.faults.WriteFault.{WriteFault}
 use Rattle.gc_values.specs.declared.faults.WriteFault.TheVariants as fault
-use Rattle.gc_values.specs.Interning.{CanIntern, CanInternAll, HaveAllIdsLeft, HaveIdsLeft, Interns, InternsAll, InternsGiven, MakesRoom, MakesRooms, PassesIds, ids_of}
+use Rattle.gc_values.specs.Interning.{CanIntern, CanInternAll, HaveAllIdsLeft, HaveIdsLeft, InternsEach, InternsAll, InternsGiven, MakesEntryRoom, MakesRooms, PassesIds, ids_of}
 use Rattle.gc_values.specs.declared.interned.InternedValues.{InternedValues}
 use Rattle.gc_values.specs.RawValues.{raw_side_values}
 
@@ -40,7 +40,7 @@ raw-first (raw.Cont (Some c)) raws = refl
 raw-first (raw.Ref class handle) raws = refl
 
 -- where nothing is given there is room for it
-rooms_none : {A : Type 0} (same : A → A → Bool) (t : SideTable A) (xs : List A) → xs ≡ [] → MakesRoom same t t xs
+rooms_none : {A : Type 0} (same : A → A → Bool) (t : SideTable A) (xs : List A) → xs ≡ [] → MakesEntryRoom same t t xs
 rooms_none same t xs none = record {
   unchanged = refl;
   has_room = λ known by.
@@ -81,7 +81,7 @@ have_one ids (x ∷ raws) (suc i) r e have =
     have_one ids raws i r e (have_right ids (raw_side_values (x ∷ [])) (raw_side_values raws) all)
 
 -- what was interned has ids
-have_interned : {A : Type 0} (same : A → A → Bool) → IsExact same → (old new : FinMap nat_cmp A) (xs known : List A) → IdsBy known old → Interns same old new xs → HaveIds new xs
+have_interned : {A : Type 0} (same : A → A → Bool) → IsExact same → (old new : FinMap nat_cmp A) (xs known : List A) → IdsBy known old → InternsEach same old new xs → HaveIds new xs
 have_interned same tells old new xs known by interned x c = (interned.held known by).in_store x (all-given same tells xs known x c)
 
 pub interned_ids : (old new : InternedIds) (given known : SideValues) → InternedBy known old → InternsAll old new given → HaveAllIds new given
@@ -111,7 +111,7 @@ rooms_ids old new given room = ids_same (ids_of new) (ids_of old) room.functions
 pub rooms_left : (old new : InternedValues) (given : SideValues) → MakesRooms old new given → HaveAllIdsLeft (ids_of old) given
 rooms_left old new given room = record { functions = λ known by. (room.functions.has_room known by).few; conts = λ known by. (room.conts.has_room known by).few }
 
-can_by : {A : Type 0} (same : A → A → Bool) (old new : SideTable A) (xs known : List A) → MakesRoom same old new xs → IdsBy known old.entries → CanIntern same new xs
+can_by : {A : Type 0} (same : A → A → Bool) (old new : SideTable A) (xs known : List A) → MakesEntryRoom same old new xs → IdsBy known old.entries → CanIntern same new xs
 can_by same old new xs known room by = record { known = known; held = subst (IdsBy known) (sym room.unchanged) by; has_room = room.has_room known by }
 
 pub rooms_can : (old new : InternedValues) (given : SideValues) → MakesRooms old new given → (known : SideValues) → InternedBy known (ids_of old) → CanInternAll new given

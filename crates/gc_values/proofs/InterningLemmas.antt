@@ -15,7 +15,7 @@ use Rattle.gc_tables.specs.declared.interner.InternFault.TheVariants as intern_f
 use Rattle.gc_tables.proofs.InternLemmas.{interns-keeps}
 use Rattle.gc_model.specs.SideValues.{IdsBy, InternedIds, SideValues, max_entries, no_side_values, same_cont, same_function, with_one, with_each}
 use Rattle.gc_model.proofs.Interned.{IsExact, conts_exact, functions_exact, side_joined, among_or_not, with-known, with-new, all-le, all-append, ids-none, ids-added}
-use Rattle.gc_values.specs.Interning.{AddsNew, CanIntern, CanInternAll, CountsNew, HasRoomFor, Interns, InternsAll, KeepsRoom, KeepsRooms, MakesRoom, PassesIds, ids_of}
+use Rattle.gc_values.specs.Interning.{AddsNew, CanIntern, CanInternAll, CountsNew, HasRoomFor, InternsEach, InternsAll, KeepsEntryRoom, KeepsRooms, MakesEntryRoom, PassesIds, ids_of}
 use Rattle.gc_values.specs.declared.interned.InternedValues.{InternedValues}
 
 module _ {A : Type 0} (same : A → A → Bool) (tells : IsExact same) where
@@ -67,16 +67,16 @@ module _ {A : Type 0} (same : A → A → Bool) (tells : IsExact same) where
   one_keeps old new x id interns q y there = interns-keeps old new x id interns q y there
 
   -- nothing is interned where there is nothing
-  pub interns_none : (ids : FinMap nat_cmp A) → Interns same ids ids []
+  pub interns_none : (ids : FinMap nat_cmp A) → InternsEach same ids ids []
   interns_none ids = record { held = λ known by. by; keeps = λ id x e. e }
 
-  pub interns_known : (t : SideTable A) (x : A) → IsInterned t x → Interns same t.entries t.entries (x ∷ [])
+  pub interns_known : (t : SideTable A) (x : A) → IsInterned t x → InternsEach same t.entries t.entries (x ∷ [])
   interns_known t x is = record {
     held = λ known by. subst (λ (xs : List A). IdsBy xs t.entries) (sym (one_known t known by x is)) by;
     keeps = λ id y e. e;
   }
 
-  pub interns_more : (old mid new : FinMap nat_cmp A) (xs ys : List A) → Interns same old mid xs → Interns same mid new ys → Interns same old new (xs ++ ys)
+  pub interns_more : (old mid new : FinMap nat_cmp A) (xs ys : List A) → InternsEach same old mid xs → InternsEach same mid new ys → InternsEach same old new (xs ++ ys)
   interns_more old mid new xs ys first rest = record {
     held = λ known by. subst (λ (us : List A). IdsBy us new) (sym (all-append same tells xs ys known)) (rest.held (with_each same xs known) (first.held known by));
     keeps = λ id x e. rest.keeps id x (first.keeps id x e);
@@ -147,7 +147,7 @@ module _ {A : Type 0} (same : A → A → Bool) (tells : IsExact same) where
   pub room_past : (t : SideTable A) (xs : List A) (n : ℕ) → CountsNew same t.entries xs (Ok n) → max_entries < entry_count t + n → PassesIds same t.entries xs
   room_past t xs n counts past known by = omega (arith, counts known by, past, by.same_count)
 
-  pub room_made : (old new : SideTable A) (xs : List A) (n : ℕ) → CountsNew same old.entries xs (Ok n) → entry_count old + n ≤ max_entries → new.entries ≡ old.entries → n ≤ new.spare → MakesRoom same old new xs
+  pub room_made : (old new : SideTable A) (xs : List A) (n : ℕ) → CountsNew same old.entries xs (Ok n) → entry_count old + n ≤ max_entries → new.entries ≡ old.entries → n ≤ new.spare → MakesEntryRoom same old new xs
   room_made old new xs n counts few unchanged room = record {
     unchanged = unchanged;
     has_room = λ known by. record { few = omega (arith, counts known by, few, by.same_count); room = omega (arith, counts known by, room) };
@@ -155,18 +155,18 @@ module _ {A : Type 0} (same : A → A → Bool) (tells : IsExact same) where
 
   -- interning those for which there is room
 
-  pub keeps_none : (t : SideTable A) (xs : List A) → xs ≡ [] → KeepsRoom same t t xs
+  pub keeps_none : (t : SideTable A) (xs : List A) → xs ≡ [] → KeepsEntryRoom same t t xs
   keeps_none t xs none known by = let equal = ap (λ (ys : List A). length (with_each same ys known)) none in omega (arith, equal)
 
-  pub keeps_known : (t : SideTable A) (x : A) → IsInterned t x → KeepsRoom same t t (x ∷ [])
+  pub keeps_known : (t : SideTable A) (x : A) → IsInterned t x → KeepsEntryRoom same t t (x ∷ [])
   keeps_known t x is known by = let equal = ap (λ (ys : List A). length ys) (one_known t known by x is) in omega (arith, equal)
 
-  pub keeps_one : (old new : SideTable A) (x : A) → ¬ IsInterned old x → old.spare ≤ new.spare + 1 → KeepsRoom same old new (x ∷ [])
+  pub keeps_one : (old new : SideTable A) (x : A) → ¬ IsInterned old x → old.spare ≤ new.spare + 1 → KeepsEntryRoom same old new (x ∷ [])
   keeps_one old new x missing less known by =
       let longer : length (with_one same x known) ≡ length known + 1 = ap (λ (ys : List A). length ys) (one_new old known by x missing) ∙ length_push known x in
       omega (arith, longer, less)
 
-  pub interns_one : (old new : SideTable A) (x : A) (id : ℕ) → TableInterns old new x id → (entry_count old ≡ max_entries → ¬ IsInterned old x → ⊥) → Interns same old.entries new.entries (x ∷ [])
+  pub interns_one : (old new : SideTable A) (x : A) (id : ℕ) → TableInterns old new x id → (entry_count old ≡ max_entries → ¬ IsInterned old x → ⊥) → InternsEach same old.entries new.entries (x ∷ [])
   interns_one old new x id interns not_full = record {
     held = λ known by. one_held old new x id interns known by (one_fits old known by x not_full);
     keeps = one_keeps old new x id interns;
@@ -179,7 +179,7 @@ module _ {A : Type 0} (same : A → A → Bool) (tells : IsExact same) where
       (omega (arith, longer, can.has_room.few, can.held.same_count), omega (arith, longer, can.has_room.room))
 
   -- what is left of a list may be interned, once its front was
-  pub can_rest : (old mid : SideTable A) (xs ys : List A) (known : List A) → IdsBy known old.entries → HasRoomFor same old (xs ++ ys) known → Interns same old.entries mid.entries xs
+  pub can_rest : (old mid : SideTable A) (xs ys : List A) (known : List A) → IdsBy known old.entries → HasRoomFor same old (xs ++ ys) known → InternsEach same old.entries mid.entries xs
       → length known + old.spare ≤ length (with_each same xs known) + mid.spare → CanIntern same mid ys
   can_rest old mid xs ys known by has interns kept =
       let equal = ap (λ (us : List A). length us) (all-append same tells xs ys known) in
@@ -195,7 +195,7 @@ module _ {A : Type 0} (same : A → A → Bool) (tells : IsExact same) where
       let more = all-le same tells ys (with_each same xs can.known) in
       record { known = can.known; held = can.held; has_room = record { few = omega (arith, can.has_room.few, equal, more); room = omega (arith, can.has_room.room, equal, more) } }
 
-  pub keeps_more : (old mid new : SideTable A) (xs ys : List A) → Interns same old.entries mid.entries xs → KeepsRoom same old mid xs → KeepsRoom same mid new ys → KeepsRoom same old new (xs ++ ys)
+  pub keeps_more : (old mid new : SideTable A) (xs ys : List A) → InternsEach same old.entries mid.entries xs → KeepsEntryRoom same old mid xs → KeepsEntryRoom same mid new ys → KeepsEntryRoom same old new (xs ++ ys)
   keeps_more old mid new xs ys interns first rest known by =
       let equal = ap (λ (us : List A). length us) (all-append same tells xs ys known) in
       omega (arith, equal, first known by, rest (with_each same xs known) (interns.held known by))
@@ -247,7 +247,7 @@ keeps_more_all old mid new f g interns first rest = record {
 }
 
 -- the next of those for which there was room
-can_next_of : {A : Type 0} (same : A → A → Bool) → IsExact same → (old mid : SideTable A) (xs ys zs : List A) → CanIntern same old (xs ++ (ys ++ zs)) → Interns same old.entries mid.entries xs → KeepsRoom same old mid xs → CanIntern same mid ys
+can_next_of : {A : Type 0} (same : A → A → Bool) → IsExact same → (old mid : SideTable A) (xs ys zs : List A) → CanIntern same old (xs ++ (ys ++ zs)) → InternsEach same old.entries mid.entries xs → KeepsEntryRoom same old mid xs → CanIntern same mid ys
 can_next_of same tells old mid xs ys zs can interns kept =
     can_front same tells mid ys zs (can_rest same tells old mid xs (ys ++ zs) can.known can.held can.has_room interns (kept can.known can.held))
 

@@ -10,7 +10,7 @@ use Rattle.gc_owner.specs.declared.entry.RootEntry.{RootEntry}
 use Rattle.gc_owner.specs.declared.entry.SlotEntry.{SlotEntry}
 use Rattle.gc_owner.specs.RootColumns.{RootsView}
 use Rattle.gc_owner.specs.Owners.{OwnerView, Trims, Collects, CollectsAll}
-use Rattle.gc_owner.specs.Growing.{OwnerState, GetsFirst, Begins, Readies, Grows, owner_rules}
+use Rattle.gc_owner.specs.Growing.{OwnerState, GetsFirst, BeginsHeap, Readies, GrowsReadied, owner_rules}
 use Rattle.gc_owner.specs.Retry.{Retry, Paused, Growing}
 use Rattle.gc_values.proofs.OwnedKept.{KeepsOwned, owned-same, owned-then, owned-trimmed, owned-moved}
 use Rattle.gc_policy.specs.Shown.{DuesOwner, frames_of}
@@ -110,7 +110,7 @@ module _ {D : Type 0} where
   keeps-dues layouts due s e (inl ran) = keeps-collected layouts s.owner e.owner ran.1.0
   keeps-dues layouts due s e (inr same) = keeps-itself s.owner e.owner (ap (λ (x : OwnerState D). x.owner) same.1)
 
-  pub keeps-begins : (layouts : Layouts) (first : ℕ) (s e : OwnerState D) → Begins layouts first s e → Keeps s.owner e.owner
+  pub keeps-begins : (layouts : Layouts) (first : ℕ) (s e : OwnerState D) → BeginsHeap layouts first s e → Keeps s.owner e.owner
   keeps-begins layouts first s e is = record {
     idle = ap (λ (x : OwnerView D). x.idle) is.rest;
     types = ap (λ (x : OwnerView D). x.types) is.rest;
@@ -128,7 +128,7 @@ module _ {D : Type 0} where
   keeps-readies layouts s e (inl ran) = keeps-collected layouts s.owner e.owner ran.1.0
   keeps-readies layouts s e (inr same) = keeps-itself s.owner e.owner (ap (λ (x : OwnerState D). x.owner) same.1)
 
-  pub keeps-grows : (layouts : Layouts) (bytes : ℕ) (s : OwnerState D) (granted : Bool) (e : OwnerState D) → Grows layouts bytes s granted e → Keeps s.owner e.owner
+  pub keeps-grows : (layouts : Layouts) (bytes : ℕ) (s : OwnerState D) (granted : Bool) (e : OwnerState D) → GrowsReadied layouts bytes s granted e → Keeps s.owner e.owner
   keeps-grows layouts bytes s granted e is =
       let after = ap (λ (x : OwnerState D). x.owner) is.after in
       keeps-trans s.owner is.ready.owner e.owner (keeps-readies layouts s is.ready is.readied) (record {
@@ -164,7 +164,7 @@ module _ {D : Type 0} where
       keeps-trans s.owner m.owner e.owner (keeps-grows layouts (need_of layouts size) s false m grows) (keeps-collected layouts m.owner e.owner collects.0)
 
 -- the heap has its memory once an object is to be made
-made_attached : {D : Type 0} (layouts : Layouts) (first : ℕ) (s e : OwnerState D) → Begins layouts first s e → e.owner.heap.attached ≡ true
+made_attached : {D : Type 0} (layouts : Layouts) (first : ℕ) (s e : OwnerState D) → BeginsHeap layouts first s e → e.owner.heap.attached ≡ true
 made_attached {D} layouts first s e is = by is.makes.0
   where
     by : ((s.owner.heap.attached ≡ true) × (e.owner.heap ≡ s.owner.heap)) ⊎ GetsFirst layouts first s.owner.heap e.owner.heap s.limits.limit → e.owner.heap.attached ≡ true

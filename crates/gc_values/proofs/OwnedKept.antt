@@ -7,17 +7,17 @@ use Rattle.gc_owner.specs.declared.entry.OwnedEntry.{OwnedEntry}
 use Rattle.gc_owner.specs.RootColumns as columns
 use Rattle.gc_model.proofs.Members.{pairs_map}
 use Rattle.gc_values.specs.declared.root.RootFault.TheVariants as fault
-use Rattle.gc_values.specs.Words.{owned_at, owned_word, AreRising}
+use Rattle.gc_values.specs.Words.{owned_at, owned_word, AreOwnedRising}
 use Rattle.gc_values.proofs.OwnedWords.{owned_word-ok}
 
 -- Owned roots stand by rising number where they did, and a number that has a word has one.
 pub record KeepsOwned (entries entries' : List OwnedEntry) : Type 0 where
-  pub rising : AreRising entries → AreRising entries'
+  pub rising : AreOwnedRising entries → AreOwnedRising entries'
   pub words : (number word : ℕ) → owned_word (owned_at number entries) ≡ Ok word → (word' : ℕ) × (owned_word (owned_at number entries') ≡ Ok word')
 
 pub owned-same : {entries entries' : List OwnedEntry} → entries' ≡ entries → KeepsOwned entries entries'
 owned-same same = record {
-  rising = subst AreRising (sym same);
+  rising = subst AreOwnedRising (sym same);
   words = λ number word is. (word, ap (λ es. owned_word (owned_at number es)) same ∙ is);
 }
 

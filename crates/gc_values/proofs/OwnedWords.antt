@@ -9,10 +9,10 @@ use Rattle.gc_owner.specs.RootColumns.{empty_entry}
 use Rattle.gc_model.proofs.Members.{item_at}
 use Rattle.gc_values.specs.declared.root.RootFault.{RootFault}
 use Rattle.gc_values.specs.declared.root.RootFault.TheVariants as fault
-use Rattle.gc_values.specs.Words.{owned_at, owned_word, FindsOwned, AreRising}
+use Rattle.gc_values.specs.Words.{owned_at, owned_word, FindsOwned, AreOwnedRising}
 
 -- it is found, since no two have the same number
-pub owned_here : (entries : List OwnedEntry) (entry : OwnedEntry) → AreRising entries → Contains entries entry → owned_at entry.number entries ≡ Some entry
+pub owned_here : (entries : List OwnedEntry) (entry : OwnedEntry) → AreOwnedRising entries → Contains entries entry → owned_at entry.number entries ≡ Some entry
 owned_here [] entry rising c = absurd (omega (arith, c.1))
 owned_here (x ∷ xs) entry rising c = elim (Contains-append_cases (x ∷ []) xs entry c) [
   | inl one ↦
@@ -44,7 +44,7 @@ owned_there number (x ∷ xs) entry e = elim (cases_eq x.number number) [
 ]
 
 -- by the place where it stands
-pub owned_place : (entries : List OwnedEntry) (number i : ℕ) → AreRising entries → FindsOwned entries number (Some i) → owned_at number entries ≡ Some (get_or entries i empty_entry)
+pub owned_place : (entries : List OwnedEntry) (number i : ℕ) → AreOwnedRising entries → FindsOwned entries number (Some i) → owned_at number entries ≡ Some (get_or entries i empty_entry)
 owned_place entries number i rising found =
     ap (λ n. owned_at n entries) (sym found.1) ∙ owned_here entries (get_or entries i empty_entry) rising (Contains-get_or entries i empty_entry found.0)
 
@@ -62,7 +62,7 @@ none_between entries number low high met below above = λ entry c same. elim (ca
 pub same_item : (entries : List OwnedEntry) (i : ℕ) (d e : OwnedEntry) → i < length entries → get_or entries i d ≡ get_or entries i e
 same_item entries i d e inside = get_or_from_slice_get entries i (get_or entries i e) d (slice_get-get_or entries i e inside)
 
-module _ (entries : List OwnedEntry) (number middle : ℕ) (rising : AreRising entries) (inside : middle < length entries) where
+module _ (entries : List OwnedEntry) (number middle : ℕ) (rising : AreOwnedRising entries) (inside : middle < length entries) where
   pub front_below : (get_or entries middle empty_entry).number < number → (k : ℕ) (d : OwnedEntry) → k < middle + 1 → (get_or entries k d).number < number
   front_below less k d before =
       let at : (get_or entries middle d).number ≡ (get_or entries middle empty_entry).number = ap (λ (x : OwnedEntry). x.number) (same_item entries middle d empty_entry inside) in
@@ -81,7 +81,7 @@ module _ (entries : List OwnedEntry) (number middle : ℕ) (rising : AreRising e
 
 -- The word of the one that was found
 
-module _ (entries : List OwnedEntry) (number : ℕ) (rising : AreRising entries) (found : Option ℕ) (finds : FindsOwned entries number found) where
+module _ (entries : List OwnedEntry) (number : ℕ) (rising : AreOwnedRising entries) (found : Option ℕ) (finds : FindsOwned entries number found) where
   at_place : (i : ℕ) → found ≡ Some i → owned_at number entries ≡ Some (get_or entries i empty_entry)
   at_place i is = owned_place entries number i rising (subst (FindsOwned entries number) is finds)
 

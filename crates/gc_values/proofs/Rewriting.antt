@@ -18,7 +18,7 @@ use Rattle.gc_owner.specs.Owners.{OwnerView}
 use Rattle.gc_model.proofs.ObjectShapes.{shape_at}
 use Rattle.gc_model.proofs.ObjectStands.{KeepsFront, array_front}
 use Rattle.gc_values.specs.Filling.{RewritesTo, Rewrites, AreFilled}
-use Rattle.gc_values.specs.HeldSlots.{HasShape, IsHeldOf, WritesAt}
+use Rattle.gc_values.specs.HeldSlots.{HasHeapShape, IsHeldOf, WritesAt}
 
 module _ {D : Type 0} (layouts : Layouts) (shape : Shape) (old : OwnerView D) (place : ℕ) (o : HeapObject) (held : get old.heap.content place ≡ Some o) where
   -- nothing was written
@@ -69,7 +69,7 @@ module _ {D : Type 0} (layouts : Layouts) (shape : Shape) (old : OwnerView D) (p
       was did
 
   -- an object of a shape is one still
-  shape_kept : (n : ℕ) (b : List ℕ) (s : Shape) → KeepsFront layouts s o.bytes b → HasShape o s n → HasShape (record o { bytes = b }) s n
+  shape_kept : (n : ℕ) (b : List ℕ) (s : Shape) → KeepsFront layouts s o.bytes b → HasHeapShape o s n → HasHeapShape (record o { bytes = b }) s n
   shape_kept n b (struct_of fields) front has = has
   shape_kept n b (array_of element) front has = (has.0, has.1 ∙ sym (front 0 (array_front layouts (array_of element) refl)))
   shape_kept n b (exn_of params) front has = has

@@ -22,8 +22,8 @@ use Rattle.gc_model.specs.Forms.{Form, number_of, function_of, continuation_of, 
 use Rattle.gc_model.proofs.ObjectShapes.{element_slot_at}
 use Rattle.gc_values.specs.declared.stored.Stored.{Stored}
 use Rattle.gc_values.specs.declared.stored.Stored.TheVariants as kept
-use Rattle.gc_values.specs.Kept.{code_of, OfForm}
-use Rattle.gc_values.specs.HeldSlots.{HasSlot, IsHeldOf, CanWriteSlot, WritesAt}
+use Rattle.gc_values.specs.Kept.{kept_code, OfForm}
+use Rattle.gc_values.specs.HeldSlots.{HasStorageSlot, IsHeldOf, CanWriteSlot, WritesAt}
 use Rattle.gc_values.specs.Filling.{Rewrites, AreElements, AreFilled, FillsElements, slot_bytes}
 use Rattle.gc_values.proofs.Rewriting.{rewrites-nothing, rewrites-more, held_again, word_again, filled-more, element-le, part_of_take}
 use Rattle.gc_values.proofs.SlotPlaces.{first_above, bytes_reach, bytes_place, held_size_is, held_small}
@@ -97,7 +97,7 @@ form_again h h' (reference_of class) (kept.Ref word) again of = again word of
 pub record FilledTo {D : Type 0} (layouts : Layouts) (old new : OwnerView D) (place : ℕ) (slot : StorageSlot) (count : ℕ) (x : Stored) (e : AreElements layouts old place slot count x) (k : ℕ) : Type 0 where
   pub bytes : List ℕ
   pub rewrites : Rewrites layouts e.shape old new place e.object bytes
-  pub filled : AreFilled (slot.offset - struct_base layouts) (storage_width slot.storage) (slot_bytes slot.storage (code_of x)) k bytes
+  pub filled : AreFilled (slot.offset - struct_base layouts) (storage_width slot.storage) (slot_bytes slot.storage (kept_code x)) k bytes
 
 module _ {D : Type 0} (layouts : Layouts) (old : OwnerView D) (place : ℕ) (slot : StorageSlot) (count : ℕ) (x : Stored) (e : AreElements layouts old place slot count x) where
   abbrev base : ℕ
@@ -107,7 +107,7 @@ module _ {D : Type 0} (layouts : Layouts) (old : OwnerView D) (place : ℕ) (slo
   w = storage_width slot.storage
 
   abbrev ws : List ℕ
-  ws = slot_bytes slot.storage (code_of x)
+  ws = slot_bytes slot.storage (kept_code x)
 
   abbrev slots : List StorageSlot
   slots = shape_slots layouts e.shape e.n
@@ -153,7 +153,7 @@ module _ {D : Type 0} (layouts : Layouts) (old : OwnerView D) (place : ℕ) (slo
   filled-all new f = record { bytes = f.bytes; rewrites = f.rewrites; filled = f.filled }
 
   -- the type table has the first of them
-  pub has_first : (can : CanBegin layouts old) (heap : IsHeap layouts old.heap) → HasSlot layouts old.types.declarations e.object.ty 0
+  pub has_first : (can : CanBegin layouts old) (heap : IsHeap layouts old.heap) → HasStorageSlot layouts old.types.declarations e.object.ty 0
   has_first can heap = record {
     shape = e.shape;
     declared = e.is.declared;
@@ -219,5 +219,5 @@ module _ {D : Type 0} (layouts : Layouts) (old : OwnerView D) (place : ℕ) (slo
 
     pub next_filled : (after : OwnerView D) → k < count → WritesAt layouts new after place (slot.offset + k * w) ws → FilledTo layouts old after place slot count x e (k + 1)
     next_filled after below did =
-        let wide = length-low 0 w (code_of x) in
+        let wide = length-low 0 w (kept_code x) in
         more_filled 1 (omega (arith, below)) after ws did (omega (arith, wide)) (one_filled w ws wide)

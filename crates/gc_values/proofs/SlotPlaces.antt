@@ -30,7 +30,7 @@ use Rattle.gc_owner.specs.Tracing.{IsTraced}
 use Rattle.gc_owner.specs.Writes.{IsNumberPlace, IsReferencePlace}
 use Rattle.gc_model.proofs.ObjectShapes.{shape_at, element_is}
 use Rattle.gc_policy.proofs.CollectedOffsets.{shape_offsets, RefSlot, ref_slot, slot_followed}
-use Rattle.gc_values.specs.HeldSlots.{HasShape, IsHeldOf}
+use Rattle.gc_values.specs.HeldSlots.{HasHeapShape, IsHeldOf}
 use Rattle.gc_values.proofs.ShapeSlots.{laid_out}
 
 -- Sizes
@@ -56,7 +56,7 @@ fields_room layouts types o shape size declared no_array layout laid size_is not
     absurd (none-some is.layout (sym (ap (option_map (array_layout layouts)) (element_is types o.ty shape declared ∙ no_array)) ∙ is.declared))
 
 -- the bytes of an object reach to the end of its shape
-pub shape_room : (layouts : Layouts) (types : List Declaration) (o : HeapObject) (shape : Shape) (n : ℕ) → shape_at types o.ty ≡ Some shape → HasShape o shape n → IsTraced layouts types o → shape_size layouts shape n ≤ struct_base layouts + length o.bytes
+pub shape_room : (layouts : Layouts) (types : List Declaration) (o : HeapObject) (shape : Shape) (n : ℕ) → shape_at types o.ty ≡ Some shape → HasHeapShape o shape n → IsTraced layouts types o → shape_size layouts shape n ≤ struct_base layouts + length o.bytes
 shape_room layouts types o (struct_of fields) n declared has traced =
     fields_room layouts types o (struct_of fields) (shape_size layouts (struct_of fields) n) declared refl (struct_layout layouts fields) refl refl (λ external. absurd (cc (sym has ∙ external))) traced
 shape_room layouts types o (array_of element) n declared has traced = array_room layouts types o element n declared has.0 has.1 traced
@@ -64,13 +64,13 @@ shape_room layouts types o (exn_of params) n declared has traced =
     fields_room layouts types o (exn_of params) (shape_size layouts (exn_of params) n) declared refl (exn_layout layouts params) refl refl (λ external. absurd (cc (sym has ∙ external))) traced
 shape_room layouts types o (func_of params results) n declared has traced = absurd has
 
-pub held_size_is : (layouts : Layouts) (o : HeapObject) (shape : Shape) (n : ℕ) → HasShape o shape n → held_size layouts o ≡ struct_base layouts + length o.bytes
+pub held_size_is : (layouts : Layouts) (o : HeapObject) (shape : Shape) (n : ℕ) → HasHeapShape o shape n → held_size layouts o ≡ struct_base layouts + length o.bytes
 held_size_is layouts o (struct_of fields) n has = ap (λ k. size_with layouts k (length o.bytes)) has
 held_size_is layouts o (array_of element) n has = ap (λ k. size_with layouts k (length o.bytes)) has.0
 held_size_is layouts o (exn_of params) n has = ap (λ k. size_with layouts k (length o.bytes)) has
 held_size_is layouts o (func_of params results) n has = absurd has
 
-has_fields : (o : HeapObject) (shape : Shape) (n : ℕ) → HasShape o shape n → HasFields o.kind
+has_fields : (o : HeapObject) (shape : Shape) (n : ℕ) → HasHeapShape o shape n → HasFields o.kind
 has_fields o (struct_of fields) n has = subst HasFields (sym has) tt
 has_fields o (array_of element) n has = subst HasFields (sym has.0) tt
 has_fields o (exn_of params) n has = subst HasFields (sym has) tt
@@ -87,27 +87,27 @@ array_above Counting = omega arith
 array_above Copying = omega arith
 
 -- the slots lie in the part that an object's holder may write, behind the header
-writable_first : (layouts : Layouts) (o : HeapObject) (shape : Shape) (n : ℕ) → HasShape o shape n → writable_offset layouts o.kind ≤ shape_first layouts shape
+writable_first : (layouts : Layouts) (o : HeapObject) (shape : Shape) (n : ℕ) → HasHeapShape o shape n → writable_offset layouts o.kind ≤ shape_first layouts shape
 writable_first layouts o (struct_of fields) n has = subst (λ k. writable_offset layouts k ≤ struct_base layouts) (sym has) (omega arith)
 writable_first layouts o (array_of element) n has = subst (λ k. writable_offset layouts k ≤ array_base layouts) (sym has.0) (omega arith)
 writable_first layouts o (exn_of params) n has = subst (λ k. writable_offset layouts k ≤ exception_base layouts) (sym has) (exception_above layouts)
 writable_first layouts o (func_of params results) n has = absurd has
 
-pub first_above : (layouts : Layouts) (o : HeapObject) (shape : Shape) (n : ℕ) → HasShape o shape n → struct_base layouts ≤ shape_first layouts shape
+pub first_above : (layouts : Layouts) (o : HeapObject) (shape : Shape) (n : ℕ) → HasHeapShape o shape n → struct_base layouts ≤ shape_first layouts shape
 first_above layouts o (struct_of fields) n has = omega arith
 first_above layouts o (array_of element) n has = array_above layouts
 first_above layouts o (exn_of params) n has = exception_above layouts
 first_above layouts o (func_of params results) n has = absurd has
 
 -- an array has as many elements as it tells
-counted : (o : HeapObject) (shape : Shape) (n : ℕ) → HasShape o shape n → shape_kind shape ≡ kinds.Array → array_length o ≡ n
+counted : (o : HeapObject) (shape : Shape) (n : ℕ) → HasHeapShape o shape n → shape_kind shape ≡ kinds.Array → array_length o ≡ n
 counted o (struct_of fields) n has of_array = absurd (cc)
 counted o (array_of element) n has of_array = sym has.1
 counted o (exn_of params) n has of_array = absurd (cc)
 counted o (func_of params results) n has of_array = absurd (cc)
 
 -- The references that an object's type tells are those of its slots.
-pub offsets_are : (layouts : Layouts) (types : List Declaration) (o : HeapObject) (shape : Shape) (n : ℕ) → shape_at types o.ty ≡ Some shape → HasShape o shape n → typed_offsets layouts types o o.kind ≡ slot_offsets (shape_slots layouts shape n)
+pub offsets_are : (layouts : Layouts) (types : List Declaration) (o : HeapObject) (shape : Shape) (n : ℕ) → shape_at types o.ty ≡ Some shape → HasHeapShape o shape n → typed_offsets layouts types o o.kind ≡ slot_offsets (shape_slots layouts shape n)
 offsets_are layouts types o shape n declared has = shape_offsets layouts types o shape n declared (has_fields o shape n has) (counted o shape n has)
 
 module _ (layouts : Layouts) (types : List Declaration) (h : HeapView) (place : ℕ) (o : HeapObject) (shape : Shape) (n : ℕ) (is : IsHeldOf types h place o shape n) (traced : IsTraced layouts types o) where

@@ -27,11 +27,11 @@ use Rattle.gc_owner.specs.Writes.{IsNumberPlace, WritesBytes}
 use Rattle.gc_policy.proofs.CollectedOffsets.{ref_slot}
 use Rattle.gc_model.proofs.ObjectShapes.{shape_at}
 use Rattle.gc_model.specs.Forms.{InternedIds}
-use Rattle.gc_values.specs.Words.{handle_roots, AreRising}
+use Rattle.gc_values.specs.Words.{handle_roots, AreOwnedRising}
 use Rattle.gc_values.specs.declared.root.RawValue.{RawValue}
-use Rattle.gc_values.specs.HeldSlots.{HasShape, IsHeldOf}
-use Rattle.gc_values.specs.Filling.{AreBlank, EachFits, EachStands, IsToFill, RewritesTo, FillsBy, Fills}
-use Rattle.gc_values.specs.Tagging.{HasTag, IsTagged, IsExceptionAt}
+use Rattle.gc_values.specs.HeldSlots.{HasHeapShape, IsHeldOf}
+use Rattle.gc_values.specs.Filling.{AreBlank, EachFits, EachStands, IsToFill, RewritesTo, FillsBy, FillsSlots}
+use Rattle.gc_values.specs.Tagging.{BeginsWithTag, IsTagged, IsExceptionAt}
 use Rattle.gc_values.proofs.Rewriting.{rewrites-none, rewrites-by}
 use Rattle.gc_values.proofs.SlotPlaces.{bytes_reach, held_size_is, offsets_are}
 use Rattle.gc_values.proofs.SlotWrites.{bytes_written}
@@ -136,7 +136,7 @@ module _ {D : Type 0} (layouts : Layouts) (v mid : OwnerView D) (place : ℕ) (e
     )
 
 -- an object of the kind of exceptions has their shape
-pub shape_params : (o : HeapObject) (shape : Shape) (n : ℕ) → HasShape o shape n → o.kind ≡ ExnRef → (params : List ValType) × (shape ≡ exn_of params)
+pub shape_params : (o : HeapObject) (shape : Shape) (n : ℕ) → HasHeapShape o shape n → o.kind ≡ ExnRef → (params : List ValType) × (shape ≡ exn_of params)
 shape_params o (struct_of fields) n has is = absurd (cc (sym has ∙ is))
 shape_params o (array_of element) n has is = absurd (cc (sym has.0 ∙ is))
 shape_params o (exn_of params) n has is = (params, refl)
@@ -156,7 +156,7 @@ module _ {D : Type 0} (layouts : Layouts) (v : OwnerView D) (place ty : ℕ) (id
     same_types : mid.types.declarations ≡ v.types.declarations
     same_types = ap (λ (x : OwnerView D). x.types.declarations) did.rest
 
-    held_again : (s : Shape) → shape ≡ s → HasShape object s count → HasShape after_tag s count
+    held_again : (s : Shape) → shape ≡ s → HasHeapShape object s count → HasHeapShape after_tag s count
     held_again (struct_of fields) is has = has
     held_again (array_of element) is has = absurd (cc (sym has.0 ∙ kind))
     held_again (exn_of params) is has = has
@@ -191,12 +191,12 @@ module _ {D : Type 0} (layouts : Layouts) (v : OwnerView D) (place ty : ℕ) (id
       };
       of_type = f.of_type;
       blank = still_blank;
-      rising = subst (λ (x : OwnerView D). AreRising x.roots.owned) (sym did.rest) f.rising;
+      rising = subst (λ (x : OwnerView D). AreOwnedRising x.roots.owned) (sym did.rest) f.rising;
       fit = subst (λ (x : OwnerView D). EachFits ids raws (handle_roots x.roots) (shape_slots layouts shape count)) (sym did.rest) f.fit;
     }
 
     -- and has its tag and its values then
-    pub filled_tagged : (new : OwnerView D) → Fills layouts (EachStands ids raws) mid new place after_tag shape count → FillsBy layouts (λ before after. HasTag tag after) (EachStands ids raws) v new place object shape count
+    pub filled_tagged : (new : OwnerView D) → FillsSlots layouts (EachStands ids raws) mid new place after_tag shape count → FillsBy layouts (λ before after. BeginsWithTag tag after) (EachStands ids raws) v new place object shape count
     filled_tagged new filled = record {
       bytes = filled.bytes;
       rewrites = record {

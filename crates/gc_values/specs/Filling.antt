@@ -22,16 +22,16 @@ use Rattle.gc_values.specs.declared.request.Place.TheVariants as place
 use Rattle.gc_values.specs.declared.request.Contents.{Contents}
 use Rattle.gc_values.specs.declared.request.Contents.TheVariants as contents
 use Rattle.gc_values.specs.declared.root.RawValue.{RawValue}
-use Rattle.gc_values.specs.Kept.{IsKept, OfForm, code_of, raw_form, StoredStands}
-use Rattle.gc_values.specs.Words.{HandleRoots, handle_roots, AreRising}
+use Rattle.gc_values.specs.Kept.{CanBeKept, OfForm, kept_code, raw_form, StoredStands}
+use Rattle.gc_values.specs.Words.{HandleRoots, handle_roots, AreOwnedRising}
 use Rattle.gc_values.specs.HeldSlots.{IsHeldOf}
-use Rattle.gc_values.specs.Tagging.{HasTag}
+use Rattle.gc_values.specs.Tagging.{BeginsWithTag}
 
 -- values fit slots, one for each
 pub record EachFits (ids : InternedIds) (raws : List RawValue) (entries : HandleRoots) (slots : List StorageSlot) : Type 0 where
   pub same_count : length raws ≡ length slots
   pub forms : (i : ℕ) (slot : StorageSlot) (r : RawValue) → slice_get slots i ≡ Some slot → slice_get raws i ≡ Some r → raw_form r ≡ storage_form slot.storage
-  pub kept : (i : ℕ) (r : RawValue) → slice_get raws i ≡ Some r → IsKept ids entries r
+  pub kept : (i : ℕ) (r : RawValue) → slice_get raws i ≡ Some r → CanBeKept ids entries r
 
 -- one value fits so many slots, which follow each other
 pub record SameFits (ids : InternedIds) (r : RawValue) (count : ℕ) (entries : HandleRoots) (slots : List StorageSlot) : Type 0 where
@@ -39,7 +39,7 @@ pub record SameFits (ids : InternedIds) (r : RawValue) (count : ℕ) (entries : 
   pub from : ℕ
   pub slots_are : slots ≡ element_slots ty count from
   pub form : 0 < count → raw_form r ≡ storage_form ty
-  pub kept : 0 < count → IsKept ids entries r
+  pub kept : 0 < count → CanBeKept ids entries r
 
 -- bytes fit slots, which follow each other
 pub record BytesFit (bytes : List ℕ) (entries : HandleRoots) (slots : List StorageSlot) : Type 0 where
@@ -92,7 +92,7 @@ pub record IsToFill {D : Type 0} (layouts : Layouts) (v : OwnerView D) (place ty
   pub is : IsHeldOf v.types.declarations v.heap place object shape count
   pub of_type : object.ty ≡ ty
   pub blank : AreBlank (struct_base layouts) (shape_slots layouts shape count) object.bytes
-  pub rising : AreRising v.roots.owned
+  pub rising : AreOwnedRising v.roots.owned
   pub fit : Fit (handle_roots v.roots) (shape_slots layouts shape count)
 
 pub record CanFill {D : Type 0} (layouts : Layouts) (v : OwnerView D) (place ty : ℕ) (Fit : HandleRoots → List StorageSlot → Type 0) : Type 0 where
@@ -126,8 +126,8 @@ pub record FillsBy {D : Type 0} (layouts : Layouts) (AreFrom : List ℕ → List
       → ValuesLie names (struct_base layouts) (shape_slots layouts shape count) values bytes
 
 -- but not in front of its slots
-abbrev pub Fills : {D : Type 0} → Layouts → (Names → HandleRoots → List StorageSlot → List Value → Type 0) → OwnerView D → OwnerView D → ℕ → HeapObject → Shape → ℕ → Type 0
-Fills layouts Stand old new place before shape count = FillsBy layouts (KeepsFront layouts shape) Stand old new place before shape count
+abbrev pub FillsSlots : {D : Type 0} → Layouts → (Names → HandleRoots → List StorageSlot → List Value → Type 0) → OwnerView D → OwnerView D → ℕ → HeapObject → Shape → ℕ → Type 0
+FillsSlots layouts Stand old new place before shape count = FillsBy layouts (KeepsFront layouts shape) Stand old new place before shape count
 
 -- a new object that was to be filled is, and that is so of its bytes
 abbrev pub FillsAs : {D : Type 0} → Layouts → (Shape → List ℕ → List ℕ → Type 0) → OwnerView D → OwnerView D → ℕ → ℕ → (HandleRoots → List StorageSlot → Type 0) → (Names → HandleRoots → List StorageSlot → List Value → Type 0) → Type 0
@@ -137,7 +137,7 @@ FillsAs layouts AreFrom old new place ty Fit Stand =
 -- but not in front of its slots
 abbrev pub FillsNew : {D : Type 0} → Layouts → OwnerView D → OwnerView D → ℕ → ℕ → (HandleRoots → List StorageSlot → Type 0) → (Names → HandleRoots → List StorageSlot → List Value → Type 0) → Type 0
 FillsNew layouts old new place ty Fit Stand =
-    (object : HeapObject) (shape : Shape) (count : ℕ) → IsToFill layouts old place ty Fit object shape count → Fills layouts Stand old new place object shape count
+    (object : HeapObject) (shape : Shape) (count : ℕ) → IsToFill layouts old place ty Fit object shape count → FillsSlots layouts Stand old new place object shape count
 
 -- a width of slots
 abbrev pub IsWidth : ℕ → Type 0
@@ -166,7 +166,7 @@ AreFilled from width ws count bytes = (i : ℕ) → i < count → take width (dr
 pub record FillsElements {D : Type 0} (layouts : Layouts) (old new : OwnerView D) (place : ℕ) (slot : StorageSlot) (count : ℕ) (x : Stored) (e : AreElements layouts old place slot count x) : Type 0 where
   pub bytes : List ℕ
   pub rewrites : Rewrites layouts e.shape old new place e.object bytes
-  pub filled : AreFilled (slot.offset - struct_base layouts) (storage_width slot.storage) (slot_bytes slot.storage (code_of x)) count bytes
+  pub filled : AreFilled (slot.offset - struct_base layouts) (storage_width slot.storage) (slot_bytes slot.storage (kept_code x)) count bytes
 
 abbrev pub FillsAll : {D : Type 0} → Layouts → OwnerView D → OwnerView D → ℕ → StorageSlot → ℕ → Stored → Type 0
 FillsAll layouts old new place slot count x = (e : AreElements layouts old place slot count x) → FillsElements layouts old new place slot count x e
@@ -174,7 +174,7 @@ FillsAll layouts old new place slot count x = (e : AreElements layouts old place
 -- what lies in front of the slots of an object of that request: an exception has its tag there, and any other object what it had
 abbrev pub front_of : Layouts → Place → Shape → List ℕ → List ℕ → Type 0
 front_of layouts (place.Struct ty) shape before after = KeepsFront layouts shape before after
-front_of layouts (place.Exn ty tag) shape before after = HasTag tag after
+front_of layouts (place.Exn ty tag) shape before after = BeginsWithTag tag after
 front_of layouts (place.Array ty count) shape before after = KeepsFront layouts shape before after
 
 -- where an exception is requested, the object at a place is one

@@ -22,7 +22,7 @@ abbrev pub storage_slot : Slot → StorageSlot
 storage_slot slot = record { storage = slot.storage; offset = slot.offset }
 
 -- There is a slot of that index in an object of the type, if it is large enough where it is an array.
-pub record HasSlot (layouts : Layouts) (types : List Declaration) (ty index : ℕ) : Type 0 where
+pub record HasStorageSlot (layouts : Layouts) (types : List Declaration) (ty index : ℕ) : Type 0 where
   pub shape : Shape
   pub declared : shape_at types ty ≡ Some shape
   pub count : ℕ
@@ -45,20 +45,20 @@ FindsHeldSlot layouts types h place index found =
 pub record IsHeldWithSlot (layouts : Layouts) (types : List Declaration) (h : HeapView) (place index : ℕ) : Type 0 where
   pub object : HeapObject
   pub held : finite.get h.content place ≡ Some object
-  pub has : HasSlot layouts types object.ty index
+  pub has : HasStorageSlot layouts types object.ty index
 
 -- an object of a heap is of a shape, with so many elements where it is an array
-abbrev pub HasShape : HeapObject → Shape → ℕ → Type 0
-HasShape o (struct_of fields) n = o.kind ≡ StructRef
-HasShape o (array_of element) n = (o.kind ≡ ArrayRef) × (n ≡ array_length o)
-HasShape o (exn_of params) n = o.kind ≡ ExnRef
-HasShape o (func_of params results) n = ⊥
+abbrev pub HasHeapShape : HeapObject → Shape → ℕ → Type 0
+HasHeapShape o (struct_of fields) n = o.kind ≡ StructRef
+HasHeapShape o (array_of element) n = (o.kind ≡ ArrayRef) × (n ≡ array_length o)
+HasHeapShape o (exn_of params) n = o.kind ≡ ExnRef
+HasHeapShape o (func_of params results) n = ⊥
 
 -- the object at a place is of a declared type with that shape
 pub record IsHeldOf (types : List Declaration) (h : HeapView) (place : ℕ) (object : HeapObject) (shape : Shape) (count : ℕ) : Type 0 where
   pub held : finite.get h.content place ≡ Some object
   pub declared : shape_at types object.ty ≡ Some shape
-  pub has : HasShape object shape count
+  pub has : HasHeapShape object shape count
 
 -- A slot of a held object of an owner may be written, with what is of its form.
 pub record CanWriteSlot {D : Type 0} (layouts : Layouts) (v : OwnerView D) (place : ℕ) (slot : StorageSlot) (x : Stored) : Type 0 where

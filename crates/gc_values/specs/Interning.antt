@@ -23,13 +23,13 @@ abbrev pub ids_of : InternedValues → InternedIds
 ids_of interned = record { funcs = interned.functions.entries; conts = interned.conts.entries }
 
 -- The values of a request that are looked at: one for all elements of an array isn't where there are none.
-abbrev pub given_values : Place → Contents → List RawValue
-given_values request (contents.Each raws) = raws.now
-given_values (place.Struct ty) (contents.Same r) = r.now ∷ []
-given_values (place.Exn ty tag) (contents.Same r) = r.now ∷ []
-given_values (place.Array ty zero) (contents.Same r) = []
-given_values (place.Array ty (suc n)) (contents.Same r) = r.now ∷ []
-given_values request (contents.Bytes bytes) = []
+abbrev pub request_values : Place → Contents → List RawValue
+request_values request (contents.Each raws) = raws.now
+request_values (place.Struct ty) (contents.Same r) = r.now ∷ []
+request_values (place.Exn ty tag) (contents.Same r) = r.now ∷ []
+request_values (place.Array ty zero) (contents.Same r) = []
+request_values (place.Array ty (suc n)) (contents.Same r) = r.now ∷ []
+request_values request (contents.Bytes bytes) = []
 
 module _ {A : Type 0} (same : A → A → Bool) where
   -- with those of a list the values that stand under these ids would be more than may be, or would not
@@ -59,7 +59,7 @@ module _ {A : Type 0} (same : A → A → Bool) where
     pub room : length (with_each same xs known) ≤ length known + t.spare
 
   -- Room is made for the values of a list; the table has what it had.
-  pub record MakesRoom (old new : SideTable A) (xs : List A) : Type 0 where
+  pub record MakesEntryRoom (old new : SideTable A) (xs : List A) : Type 0 where
     pub unchanged : new.entries ≡ old.entries
     pub has_room : (known : List A) → IdsBy known old.entries → HasRoomFor new xs known
 
@@ -70,13 +70,13 @@ module _ {A : Type 0} (same : A → A → Bool) where
     pub has_room : HasRoomFor t xs known
 
   -- The values of a list have ids now; what had one has it still.
-  pub record Interns (old new : FinMap nat_cmp A) (xs : List A) : Type 0 where
+  pub record InternsEach (old new : FinMap nat_cmp A) (xs : List A) : Type 0 where
     pub held : (known : List A) → IdsBy known old → IdsBy (with_each same xs known) new
     pub keeps : (id : ℕ) (x : A) → get old id ≡ Some x → get new id ≡ Some x
 
   -- what was known and the spare places are no fewer than before, together
-  abbrev pub KeepsRoom : SideTable A → SideTable A → List A → Type 0
-  KeepsRoom old new xs = (known : List A) → IdsBy known old.entries → length known + old.spare ≤ length (with_each same xs known) + new.spare
+  abbrev pub KeepsEntryRoom : SideTable A → SideTable A → List A → Type 0
+  KeepsEntryRoom old new xs = (known : List A) → IdsBy known old.entries → length known + old.spare ≤ length (with_each same xs known) + new.spare
 
 -- How many spare places a table with so many entries wants for what was counted, or why it can't have them.
 abbrev pub FindsPlaces : ℕ → Result ℕ InternFault → PlaceFault → Result ℕ PlaceFault → Type 0
@@ -89,8 +89,8 @@ FindsPlaces entries (Err intern_fault.Memory) full answer = answer ≡ Err place
 
 -- there is room
 pub record MakesRooms (old new : InternedValues) (given : SideValues) : Type 0 where
-  pub functions : MakesRoom same_function old.functions new.functions given.funcs
-  pub conts : MakesRoom same_cont old.conts new.conts given.conts
+  pub functions : MakesEntryRoom same_function old.functions new.functions given.funcs
+  pub conts : MakesEntryRoom same_cont old.conts new.conts given.conts
 
 abbrev pub FindsRoom : InternedValues → InternedValues → SideValues → Result (Unit {0}) PlaceFault → Type 0
 FindsRoom old new given (Ok done) = MakesRooms old new given
@@ -105,12 +105,12 @@ pub record CanInternAll (t : InternedValues) (given : SideValues) : Type 0 where
   pub conts : CanIntern same_cont t.conts given.conts
 
 pub record InternsAll (old new : InternedIds) (given : SideValues) : Type 0 where
-  pub functions : Interns same_function old.funcs new.funcs given.funcs
-  pub conts : Interns same_cont old.conts new.conts given.conts
+  pub functions : InternsEach same_function old.funcs new.funcs given.funcs
+  pub conts : InternsEach same_cont old.conts new.conts given.conts
 
 pub record KeepsRooms (old new : InternedValues) (given : SideValues) : Type 0 where
-  pub functions : KeepsRoom same_function old.functions new.functions given.funcs
-  pub conts : KeepsRoom same_cont old.conts new.conts given.conts
+  pub functions : KeepsEntryRoom same_function old.functions new.functions given.funcs
+  pub conts : KeepsEntryRoom same_cont old.conts new.conts given.conts
 
 -- ids are left for what is given
 pub record HaveAllIdsLeft (ids : InternedIds) (given : SideValues) : Type 0 where

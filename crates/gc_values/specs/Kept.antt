@@ -16,9 +16,9 @@ use Rattle.gc_values.specs.declared.root.RawValue.TheVariants as raw
 use Rattle.gc_values.specs.Words.{HandleRoots, root_word_at}
 
 -- the number that stands in a heap for what is kept
-abbrev pub code_of : Stored → ℕ
-code_of (kept.Number n) = n
-code_of (kept.Ref word) = word
+abbrev pub kept_code : Stored → ℕ
+kept_code (kept.Number n) = n
+kept_code (kept.Ref word) = word
 
 -- how a value that is given to the store is kept, by the ids of what is interned and the words that the roots have
 abbrev pub KeptAs : InternedIds → HandleRoots → RawValue → Stored → Type 0
@@ -33,8 +33,8 @@ KeptAs ids entries (raw.Ref class None) x = x ≡ kept.Ref 0
 KeptAs ids entries (raw.Ref class (Some handle)) x = (word : ℕ) × ((root_word_at entries handle.slot handle.generation ≡ Ok word) × (x ≡ kept.Ref word))
 
 -- a value is kept in some way
-abbrev pub IsKept : InternedIds → HandleRoots → RawValue → Type 0
-IsKept ids entries r = (x : Stored) × KeptAs ids entries r x
+abbrev pub CanBeKept : InternedIds → HandleRoots → RawValue → Type 0
+CanBeKept ids entries r = (x : Stored) × KeptAs ids entries r x
 
 -- what a value is that is given to the store
 abbrev pub raw_form : RawValue → Form
@@ -77,7 +77,7 @@ OfForm h (reference_of class) (kept.Ref word) = IsWordOf h word
 -- A value that is given to the store is one of the table: whatever is kept of it is that value's code, where the code is no
 -- wider than such values are, as that of every number is.
 abbrev pub KeptStands : InternedIds → Names → HandleRoots → RawValue → Value → Type 0
-KeptStands ids names entries r v = (x : Stored) → KeptAs ids entries r x → FitsForm (raw_form r) (code_of x) → IsCode names v (code_of x)
+KeptStands ids names entries r v = (x : Stored) → KeptAs ids entries r x → FitsForm (raw_form r) (kept_code x) → IsCode names v (kept_code x)
 
 -- a value of the table is what a slot of that type keeps of one that is given to the store
 pub record StoredStands (ids : InternedIds) (names : Names) (entries : HandleRoots) (ty : StorageType) (r : RawValue) (w : Value) : Type 0 where

@@ -10,7 +10,7 @@ use Rattle.gc_view.specs.Heaps.{HeapObject}
 use Rattle.gc_heap.specs.Heap.{array_size}
 use Rattle.gc_owner.specs.declared.allocate.Description.{Description}
 use Rattle.gc_owner.specs.declared.allocate.Description.TheVariants as of
-use Rattle.gc_owner.specs.Growing.{OwnerState, Begins, NotBegun, owner_rules}
+use Rattle.gc_owner.specs.Growing.{OwnerState, BeginsHeap, NotBegun, owner_rules}
 use Rattle.gc_owner.specs.Makes.{AllocatesRooted, LacksSpace}
 use Rattle.gc_owner.specs.Retry.{Paused}
 use Rattle.gc_policy.specs.Shown.{DuesOwner}
@@ -56,7 +56,7 @@ AllocatesObject layouts o size s e (Err fault.Memory) = Paused (owner_rules layo
 -- the heap was made, and a collection ran where one is due
 pub record BeginsMaking {D : Type 0} (layouts : Layouts) (first : ℕ) (due : Bool) (s e : OwnerState D) : Type 0 where
   pub made : OwnerState D
-  pub begins : Begins layouts first s made
+  pub begins : BeginsHeap layouts first s made
   pub dues : DuesOwner layouts due made e
 
 -- what making a heap and an object in it answers and leaves

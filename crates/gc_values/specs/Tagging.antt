@@ -9,13 +9,13 @@ use Rattle.gc_owner.specs.Owners.{OwnerView}
 use Rattle.gc_values.specs.HeldSlots.{IsHeldOf}
 
 -- the bytes of an exception begin with that tag
-pub record HasTag (tag : Tag) (bytes : List ℕ) : Type 0 where
+pub record BeginsWithTag (tag : Tag) (bytes : List ℕ) : Type 0 where
   pub instance : u32_at bytes 0 ≡ tag.instance
   pub index : u32_at bytes 4 ≡ tag.index
 
 -- and are as before behind it
 pub record IsTagged (tag : Tag) (before after : List ℕ) : Type 0 where
-  pub has : HasTag tag after
+  pub has : BeginsWithTag tag after
   pub behind : SameBytes before after 8 (length before)
 
 -- an exception of a declared type is held at a place of an owner

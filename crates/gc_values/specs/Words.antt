@@ -52,8 +52,8 @@ abbrev pub root_word_at : HandleRoots → RootSlot → ℕ → Result ℕ RootFa
 root_word_at roots slot generation = word_at roots.scoped roots.owned slot generation
 
 -- owned roots stand by rising number
-abbrev pub AreRising : List OwnedEntry → Type 0
-AreRising entries = AllPairs (λ (a b : OwnedEntry). a.number < b.number) entries
+abbrev pub AreOwnedRising : List OwnedEntry → Type 0
+AreOwnedRising entries = AllPairs (λ (a b : OwnedEntry). a.number < b.number) entries
 
 -- where the owned root of that number stands, or that there is none
 abbrev pub FindsOwned : List OwnedEntry → ℕ → Option ℕ → Type 0

@@ -19,9 +19,9 @@ pub struct Engine {
 }
 
 impl Model for Engine {
-    ghost use Rattle.gc_values.specs.Ids.{Given};
+    ghost use Rattle.gc_values.specs.Ids.{GivenIds};
 
-    ghost Value = { Given };
+    ghost Value = { GivenIds };
 
     ghost view = { λ e. record { engine = e.number; given = e.given } };
 }

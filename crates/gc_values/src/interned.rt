@@ -2,7 +2,7 @@
 
 ghost use Rattle.std.specs.Prelude.{◌≡◌, ◌≤◌, ◌↔◌, ℕ, [], ◌∷◌, IfOk, IsOk, IsTrue, Option, false};
 ghost use Rattle.gc_model.specs.SideValues.{IsContCode, IsIdCode, max_entries, no_ids, no_side_values, same_cont, same_function};
-ghost use Rattle.gc_values.specs.Interning.{AddsNew, CanIntern, CanInternAll, CountsNew, FindsPlaces, FindsRoom, Interns, InternsAll, InternsGiven, KeepsRoom, KeepsRooms, given_values, ids_of};
+ghost use Rattle.gc_values.specs.Interning.{AddsNew, CanIntern, CanInternAll, CountsNew, FindsPlaces, FindsRoom, InternsEach, InternsAll, InternsGiven, KeepsEntryRoom, KeepsRooms, request_values, ids_of};
 ghost use Rattle.gc_values.specs.RawValues.{raw_conts, raw_functions, raw_side_values};
 ghost use Rattle.gc_types.specs.declared.value.Func.{Func as FuncValue};
 
@@ -48,7 +48,7 @@ impl InternedValues {
 
 /// The values of a request that are looked at: one for all elements of an array isn't where there are none.
 pub fn given_values<'a>(request: &Place, contents: Contents<'a>) -> &'a [RawValue]
-    ensures { result.now ≡ given_values request.now contents.entry }
+    ensures { result.now ≡ request_values request.now contents.entry }
 {
     match contents {
         Contents::Each(values) => values,
@@ -218,8 +218,8 @@ pub fn find_room(
 /// Interns a function value, for which there is room, where it isn't interned yet.
 fn intern_function(functions: &mut FuncRefTable, func: &Option<Func>)
     requires { CanIntern same_function functions.old (func.now ∷ []) }
-    ensures interns { Interns same_function functions.old.entries functions.new.entries (func.now ∷ []) }
-    ensures room { KeepsRoom same_function functions.old functions.new (func.now ∷ []) }
+    ensures interns { InternsEach same_function functions.old.entries functions.new.entries (func.now ∷ []) }
+    ensures room { KeepsEntryRoom same_function functions.old functions.new (func.now ∷ []) }
 {
     if functions.id_of(*func).is_some() {
         return;
@@ -233,8 +233,8 @@ fn intern_function(functions: &mut FuncRefTable, func: &Option<Func>)
 /// Interns a continuation, for which there is room, where it isn't interned yet.
 fn intern_cont(conts: &mut ContRefTable, cont: u64)
     requires { CanIntern same_cont conts.old (cont ∷ []) }
-    ensures interns { Interns same_cont conts.old.entries conts.new.entries (cont ∷ []) }
-    ensures room { KeepsRoom same_cont conts.old conts.new (cont ∷ []) }
+    ensures interns { InternsEach same_cont conts.old.entries conts.new.entries (cont ∷ []) }
+    ensures room { KeepsEntryRoom same_cont conts.old conts.new (cont ∷ []) }
 {
     if conts.id_of(cont).is_some() {
         return;

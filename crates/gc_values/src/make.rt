@@ -4,7 +4,7 @@ ghost use Rattle.std.specs.Prelude.{◌≡◌, ◌<◌, ◌≤◌, ◌^◌, ℕ,
 ghost use Rattle.gc_view.specs.Heaps.{HeapObject};
 ghost use Rattle.gc_view.specs.Pages.{max_pages};
 ghost use Rattle.gc_owner.specs.Growing.{state_of};
-ghost use Rattle.gc_owner.specs.Makes.{CanMake, Describes};
+ghost use Rattle.gc_owner.specs.Makes.{CanMakeDescribed, Describes};
 ghost use Rattle.gc_policy.specs.Shown.{DuesOwner};
 ghost use Rattle.gc_model.specs.Allocation.{Limits};
 ghost use Rattle.gc_values.specs.Making.{AllocatesObject, IsOfTypes, IsSizeOf, MakesRooted, TellsSize, described_by};
@@ -67,7 +67,7 @@ fn allocate_object<H: GcHeap, D: Drop, L: ResourceLimiter>(
     limiter: &mut L,
     description: &Description,
 ) -> Result<u32, PlaceFault>
-    requires can { CanMake H.KIND owner.old.seen description.now }
+    requires can { CanMakeDescribed H.KIND owner.old.seen description.now }
     ensures { (o : HeapObject) (size : ℕ) → Describes H.KIND owner.old.seen description.now o size
         → AllocatesObject H.KIND o size (state_of owner.old.seen (L.limits limiter.old)) (state_of owner.new.seen (L.limits limiter.new)) result }
 {

@@ -2,7 +2,7 @@
 
 ghost use Rattle.std.specs.Prelude.{◌≡◌, Some, None};
 ghost use Rattle.gc_types.specs.Declarations.{elem_at};
-ghost use Rattle.gc_values.specs.HeldSlots.{HasSlot, FindsSlot, IsHeldWithSlot, FindsHeldSlot};
+ghost use Rattle.gc_values.specs.HeldSlots.{HasStorageSlot, FindsSlot, IsHeldWithSlot, FindsHeldSlot};
 
 use gc_heap::GcHeap;
 use gc_refs::VMGcRef;
@@ -20,7 +20,7 @@ pub struct Slot {
 /// The slot of a field of a struct or an exception of a declared type.
 #[inline(always)]
 fn field_slot(types: &Types, layouts: Layouts, ty: VMSharedTypeIndex, index: u32) -> Slot
-    requires has { HasSlot layouts types.now.declarations ty index }
+    requires has { HasStorageSlot layouts types.now.declarations ty index }
     requires no_array { elem_at types.now.declarations ty ≡ None }
     ensures { FindsSlot layouts types.now.declarations ty index result }
 {
@@ -39,7 +39,7 @@ fn element_slot(
     index: u32,
     element: FieldType,
 ) -> Slot
-    requires has { HasSlot layouts types.now.declarations ty index }
+    requires has { HasStorageSlot layouts types.now.declarations ty index }
     requires element { elem_at types.now.declarations ty ≡ Some element }
     ensures { FindsSlot layouts types.now.declarations ty index result }
 {
@@ -54,7 +54,7 @@ fn element_slot(
 /// The slot of the value at that index of an object of a declared type.
 #[inline(always)]
 pub(crate) fn slot_at(types: &Types, layouts: Layouts, ty: VMSharedTypeIndex, index: u32) -> Slot
-    requires { HasSlot layouts types.now.declarations ty index }
+    requires { HasStorageSlot layouts types.now.declarations ty index }
     ensures { FindsSlot layouts types.now.declarations ty index result }
 {
     match types.array_elem(ty) {

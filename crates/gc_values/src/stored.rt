@@ -6,8 +6,8 @@ ghost use Rattle.gc_types.specs.Layouts.{storage_width, value_width};
 ghost use Rattle.gc_model.specs.Forms.{top_form, type_form, storage_form};
 ghost use Rattle.gc_heap.specs.Access.{IsReadable};
 ghost use Rattle.gc_values.specs.declared.stored.Stored.TheVariants as kept;
-ghost use Rattle.gc_values.specs.Kept.{code_of, raw_form, KeptAs, IsKept, FitsForm, IsFound};
-ghost use Rattle.gc_values.specs.Words.{AreRising};
+ghost use Rattle.gc_values.specs.Kept.{kept_code, raw_form, KeptAs, CanBeKept, FitsForm, IsFound};
+ghost use Rattle.gc_values.specs.Words.{AreOwnedRising};
 ghost use Rattle.gc_values.specs.Interning.{ids_of};
 ghost use Rattle.gc_values.specs.HeldSlots.{storage_slot, CanWriteSlot, WritesAt, FindsAt, FitsAt};
 
@@ -48,10 +48,10 @@ pub fn stored_value(
     owned: &[OwnedEntry],
     value: &RawValue,
 ) -> Stored
-    requires rising { AreRising owned.now }
-    requires kept { IsKept (ids_of interned.now) (record { scoped = scoped.now; owned = owned.now }) value.now }
+    requires rising { AreOwnedRising owned.now }
+    requires kept { CanBeKept (ids_of interned.now) (record { scoped = scoped.now; owned = owned.now }) value.now }
     ensures kept { KeptAs (ids_of interned.now) (record { scoped = scoped.now; owned = owned.now }) value.now result }
-    ensures small { FitsForm (raw_form value.now) (code_of result) }
+    ensures small { FitsForm (raw_form value.now) (kept_code result) }
 {
     match value {
         RawValue::I32(number) => Stored::Number(u128::from(number.cast_unsigned())),
@@ -123,7 +123,7 @@ pub fn write_slot<H: GcHeap, D: Drop>(
 )
     requires idle { owner.old.seen.idle ≡ true }
     requires can { CanWriteSlot H.KIND owner.old.seen gc_ref.now (storage_slot slot.now) stored }
-    ensures { WritesAt H.KIND owner.old.seen owner.new.seen gc_ref.now slot.now.offset (bytes_low_first 0 (storage_width slot.now.storage) (code_of stored)) }
+    ensures { WritesAt H.KIND owner.old.seen owner.new.seen gc_ref.now slot.now.offset (bytes_low_first 0 (storage_width slot.now.storage) (kept_code stored)) }
 {
     owner.is_ready();
     match stored {

@@ -1,7 +1,7 @@
 //! The words that handles name.
 
 ghost use Rattle.std.specs.Prelude.{◌≡◌, ◌<◌, ◌+◌};
-ghost use Rattle.gc_values.specs.Words.{owned_word, owned_at, owned_id, slot_word, word_at, FindsOwned, AreRising};
+ghost use Rattle.gc_values.specs.Words.{owned_word, owned_at, owned_id, slot_word, word_at, FindsOwned, AreOwnedRising};
 
 use crate::root::{RootFault, RootSlot};
 use gc_owner::{OwnedEntry, RootEntry};
@@ -15,7 +15,7 @@ pub fn owned_id(number: u64) -> u32
 
 /// Where the owned root of that number stands, among those that stand by rising number.
 pub fn find_owned(entries: &[OwnedEntry], number: u64) -> Option<usize>
-    requires rising { AreRising entries.now }
+    requires rising { AreOwnedRising entries.now }
     ensures { FindsOwned entries.now number result }
 {
     let mut low = 0;
@@ -37,7 +37,7 @@ pub fn find_owned(entries: &[OwnedEntry], number: u64) -> Option<usize>
 
 /// The word of the owned root of that number, as long as it has handles.
 fn owned_word(entries: &[OwnedEntry], number: u64) -> Result<u32, RootFault>
-    requires rising { AreRising entries.now }
+    requires rising { AreOwnedRising entries.now }
     ensures { result ≡ owned_word (owned_at number entries.now) }
 {
     match find_owned(entries, number) {
@@ -75,7 +75,7 @@ pub fn word_at(
     slot: RootSlot,
     generation: u64,
 ) -> Result<u32, RootFault>
-    requires rising { AreRising owned.now }
+    requires rising { AreOwnedRising owned.now }
     ensures { result ≡ word_at entries.now owned.now slot generation }
 {
     match slot {

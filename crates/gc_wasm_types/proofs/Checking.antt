@@ -15,11 +15,11 @@ use Rattle.gc_store.specs.Roots.{NamesNothing}
 use Rattle.gc_objects.specs.declared.faults.AccessFault.{AccessFault}
 use Rattle.gc_objects.specs.Answered.{RawFitsType}
 use Rattle.gc_objects.specs.Faults.{accessed}
-use Rattle.gc_wasm_types.specs.Values.{WasmValue, absent, handle, or_absent, is_own, FitsAs, ChecksReference, ChecksType}
+use Rattle.gc_wasm_types.specs.Values.{WasmValue, absent, handle, or_absent, is_own_reference, FitsAs, ChecksReference, ChecksType}
 
 module _ {D : Type 0} (s : StoreView D) (t : Table D) (ty : ValType) where
   module _ (class : GcClass) where
-    fits_as : (root : Option GcRootIndex) (b : Bool) → RawFitsType s t ty (raw.Ref class root) (Ok b) → (is_own s (or_absent handle root) ≡ true) × FitsAs s t class (or_absent handle root) ty b
+    fits_as : (root : Option GcRootIndex) (b : Bool) → RawFitsType s t ty (raw.Ref class root) (Ok b) → (is_own_reference s (or_absent handle root) ≡ true) × FitsAs s t class (or_absent handle root) ty b
     fits_as None b is = (is.0, (null, (refl, sym (is.1.1.1 ∙ ap (fits_type t.types t.objects ty) is.1.1.0))))
     fits_as (Some h) b is =
         let stands = is.1.1.0 in
@@ -38,8 +38,8 @@ module _ {D : Type 0} (s : StoreView D) (t : Table D) (ty : ValType) where
     refused_as (Some h) root_fault.Memory is = absurd is
 
     module _ (root : Option GcRootIndex) where
-      pub fit_told : (b answer : Bool) → b ≡ answer → RawFitsType s t ty (raw.Ref class root) (Ok b) → (is_own s (or_absent handle root) ≡ true) × FitsAs s t class (or_absent handle root) ty answer
-      fit_told b answer e is = subst (λ (q : Bool). (is_own s (or_absent handle root) ≡ true) × FitsAs s t class (or_absent handle root) ty q) e (fits_as root b is)
+      pub fit_told : (b answer : Bool) → b ≡ answer → RawFitsType s t ty (raw.Ref class root) (Ok b) → (is_own_reference s (or_absent handle root) ≡ true) × FitsAs s t class (or_absent handle root) ty answer
+      fit_told b answer e is = subst (λ (q : Bool). (is_own_reference s (or_absent handle root) ≡ true) × FitsAs s t class (or_absent handle root) ty q) e (fits_as root b is)
 
       pub refusal_told : (why : RootFault) (answer : AccessFault) → answer ≡ accessed why → RawFitsType s t ty (raw.Ref class root) (Err why) → ChecksReference s t class (or_absent handle root) ty (Err answer)
       refusal_told why answer e is = subst (λ (f : AccessFault). ChecksReference s t class (or_absent handle root) ty (Err f)) (sym e) (refused_as root why is)

@@ -14,7 +14,7 @@ use Rattle.gc_values.specs.declared.root.RootFault.{RootFault}
 use Rattle.gc_values.specs.declared.root.RootFault.TheVariants as fault
 use Rattle.gc_rooted.specs.declared.rooted.Rooted.{Rooted}
 use Rattle.gc_store.specs.Kinds.{NamesKind}
-use Rattle.gc_objects.specs.Given.{root_of}
+use Rattle.gc_objects.specs.Given.{root_of_handle}
 use Rattle.gc_objects.specs.RawWords.{TakesWord}
 use Rattle.gc_wasm_types.specs.Loads.{OwnsWordOf, LoadsValue, RefusesLoad, ValueIsOf, WantsNoMemory}
 use Rattle.gc_wasm_types.specs.Values.{handle, or_absent, references, Manner, by_number, scoped, owned}
@@ -47,7 +47,7 @@ module _ (D : Type 0) {T : Type 0} (layouts : Layouts) (new : StoreView D) (kind
   owned_kinds (Err why) told = tt
 
 -- null alone is told by no root
-pub scoped_null : {T : Type 0} (word : ℕ) (result : Result (Option (Rooted T)) RootFault) → IfOk result (λ found. (root_of found ≡ None) ↔ (word ≡ 0)) → IfOk result (λ found. (option_map (λ (h : Rooted T). h.index) found ≡ None) ↔ (word ≡ 0))
+pub scoped_null : {T : Type 0} (word : ℕ) (result : Result (Option (Rooted T)) RootFault) → IfOk result (λ found. (root_of_handle found ≡ None) ↔ (word ≡ 0)) → IfOk result (λ found. (option_map (λ (h : Rooted T). h.index) found ≡ None) ↔ (word ≡ 0))
 scoped_null word (Ok None) told = told
 scoped_null word (Ok (Some h)) told = told
 scoped_null word (Err why) told = tt

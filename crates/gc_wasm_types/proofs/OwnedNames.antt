@@ -11,7 +11,7 @@ use Rattle.gc_model.specs.Stores.{StoreView}
 use Rattle.gc_model.specs.Table.{Table, Owned}
 use Rattle.gc_model.specs.Values.{Reference, null, small, at}
 use Rattle.gc_store.specs.Roots.{owned_handle, NamesReference}
-use Rattle.gc_store.specs.Kinds.{IsOfKind}
+use Rattle.gc_store.specs.Kinds.{IsReferenceOfKind}
 
 -- a root at the end is found by its number, where no other has it
 owned_at_end : (number : ℕ) (roots : List Owned) (r : Reference) → ((root : Owned) → Contains roots root → root.number ≢ number)
@@ -36,7 +36,7 @@ names_owned layouts s t holds new r = inr (record {
       absurd (omega (arith, early, numbered, same)));
 })
 
-pub kind_owned : {D : Type 0} (kind : VMGcKind) (t : Table D) (q r : Reference) → IsOfKind kind t r → IsOfKind kind (own q t) r
+pub kind_owned : {D : Type 0} (kind : VMGcKind) (t : Table D) (q r : Reference) → IsReferenceOfKind kind t r → IsReferenceOfKind kind (own q t) r
 kind_owned kind t q null is = is
 kind_owned kind t q (small n) is = is
 kind_owned kind t q (at p) is = is

@@ -16,7 +16,7 @@ use Rattle.gc_store.specs.Kinds.{NamesKind}
 use Rattle.gc_store.specs.RawWords.{IsRawWord}
 use Rattle.gc_objects.proofs.WordLemmas.{told_kind}
 use Rattle.gc_objects.proofs.Naming.{bool_cases, named_or_not}
-use Rattle.gc_wasm_types.specs.Loads.{CanLoad, IsWordOf, ValueIsOf}
+use Rattle.gc_wasm_types.specs.Loads.{CanLoad, IsWordOfWasmKind, ValueIsOf}
 use Rattle.gc_wasm_types.specs.Values.{WasmKind, numbers, references, WasmValue, absent, number, handle, word_bytes, raw_word, StoresWord}
 
 module _ {D : Type 0} (layouts : Layouts) (s : StoreView D) (t : Table D) (place : Placing) (holds : Holds layouts s t place) (root : GcRootIndex) (result : Result ℕ RootFault)
@@ -61,7 +61,7 @@ module _ {D : Type 0} (layouts : Layouts) (s : StoreView D) (root : GcRootIndex)
   word_loads new rest kind nullable names word is positive bytes word_is =
       let raw : IsRawWord D layouts s kind word = subst (λ (q : Result ℕ RootFault). IfOk q (IsRawWord D layouts s kind)) is (told_kind D layouts s kind root names result wrong live gone) in
       let own = raw positive in
-      let word_of : IsWordOf D layouts s (references kind) word = record { table = own.table; place = own.place; holds = own.holds; root = own.root; is_word = own.is_word; of_kind = own.of_kind } in
+      let word_of : IsWordOfWasmKind D layouts s (references kind) word = record { table = own.table; place = own.place; holds = own.holds; root = own.root; is_word = own.is_word; of_kind = own.of_kind } in
       let can : CanLoad D layouts s (references kind) nullable word = record { present = λ e. positive; word_of = λ p. word_of } in
       subst (λ (v : StoreView D). CanLoad D layouts v (references kind) nullable (raw_word bytes)) (sym rest) (subst (λ (n : ℕ). CanLoad D layouts s (references kind) nullable n) (sym word_is) can)
 

@@ -13,7 +13,7 @@ use Rattle.gc_rooted.specs.declared.owned_rooted.OwnedRooted.{OwnedRooted}
 use Rattle.gc_store.specs.OwnedWords.{HoldsThere}
 use Rattle.gc_store.specs.RawWords.{PushesWord, OwnsReference}
 use Rattle.gc_store.specs.Stores.{scoped_places}
-use Rattle.gc_store.specs.Kinds.{IsOfKind, NamesKind}
+use Rattle.gc_store.specs.Kinds.{IsReferenceOfKind, NamesKind}
 use Rattle.gc_wasm_types.specs.Values.{WasmValue, absent, number, handle, WasmKind, numbers, references, Manner, by_number, scoped, owned}
 
 -- a new owned root for the reference with a word, by a typed handle; null gets none
@@ -22,23 +22,23 @@ OwnsWordOf layouts t a r (Ok found) new = OwnsReference layouts t a r (Ok (optio
 OwnsWordOf layouts t a r (Err why) new = OwnsReference layouts t a r (Err why) new
 
 -- a reference is one that a type takes
-abbrev pub IsOf : {D : Type 0} → WasmKind → Table D → Reference → Type 0
-IsOf numbers t r = (n : ℕ) × (r ≡ small n)
-IsOf (references kind) t r = IsOfKind kind t r
+abbrev pub IsOfWasmKind : {D : Type 0} → WasmKind → Table D → Reference → Type 0
+IsOfWasmKind numbers t r = (n : ℕ) × (r ≡ small n)
+IsOfWasmKind (references kind) t r = IsReferenceOfKind kind t r
 
 -- the word is that of such a reference, in some table that the store holds
-pub record IsWordOf (D : Type 0) (layouts : Layouts) (s : StoreView D) (kind : WasmKind) (word : ℕ) : Type 0 where
+pub record IsWordOfWasmKind (D : Type 0) (layouts : Layouts) (s : StoreView D) (kind : WasmKind) (word : ℕ) : Type 0 where
   pub table : Table D
   pub place : Placing
   pub holds : Holds layouts s table place
   pub root : Reference
   pub is_word : IsWord place root word
-  pub of_kind : IsOf kind table root
+  pub of_kind : IsOfWasmKind kind table root
 
 -- the word may be loaded: it is that of such a reference, or 0 where null is taken
 pub record CanLoad (D : Type 0) (layouts : Layouts) (s : StoreView D) (kind : WasmKind) (nullable : Bool) (word : ℕ) : Type 0 where
   pub present : nullable ≡ false → 0 < word
-  pub word_of : 0 < word → IsWordOf D layouts s kind word
+  pub word_of : 0 < word → IsWordOfWasmKind D layouts s kind word
 
 -- The value is that reference; it has a new root of its own, where it has one. Null and numbers have none. Objects lie where they
 -- lay, but where an owned root is made.

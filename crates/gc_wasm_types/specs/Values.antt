@@ -70,14 +70,14 @@ handle_form nullable heap_type kind class manner = record {
 }
 
 -- the root that a value names
-abbrev pub named : WasmValue → Option GcRootIndex
-named absent = None
-named (number n) = None
-named (handle h) = Some h
+abbrev pub value_root : WasmValue → Option GcRootIndex
+value_root absent = None
+value_root (number n) = None
+value_root (handle h) = Some h
 
 -- whether a value has no handle of another store
-abbrev pub is_own : {D : Type 0} → StoreView D → WasmValue → Bool
-is_own s v = is_own_root s (named v)
+abbrev pub is_own_reference : {D : Type 0} → StoreView D → WasmValue → Bool
+is_own_reference s v = is_own_root s (value_root v)
 
 -- the value is that reference of the table
 abbrev pub StandsFor : {D : Type 0} → StoreView D → Table D → WasmValue → Reference → Type 0
@@ -86,20 +86,20 @@ StandsFor s t (number n) r = r ≡ small n
 StandsFor s t (handle h) r = NamesReference s t h r
 
 -- its root is gone
-abbrev pub IsGone : {D : Type 0} → StoreView D → Table D → WasmValue → Type 0
-IsGone s t absent = ⊥
-IsGone s t (number n) = ⊥
-IsGone s t (handle h) = NamesNothing s t h
+abbrev pub HasGoneRoot : {D : Type 0} → StoreView D → Table D → WasmValue → Type 0
+HasGoneRoot s t absent = ⊥
+HasGoneRoot s t (number n) = ⊥
+HasGoneRoot s t (handle h) = NamesNothing s t h
 
 -- whether it fits a type, as a reference of that class
 abbrev pub FitsAs : {D : Type 0} → StoreView D → Table D → GcClass → WasmValue → ValType → Bool → Type 0
 FitsAs s t class v ty b = (r : Reference) × (StandsFor s t v r × (fits_type t.types t.objects ty (reference class r) ≡ b))
 
 abbrev pub ChecksReference : {D : Type 0} → StoreView D → Table D → GcClass → WasmValue → ValType → Result (Unit {0}) AccessFault → Type 0
-ChecksReference s t class v ty (Ok done) = (is_own s v ≡ true) × FitsAs s t class v ty true
-ChecksReference s t class v ty (Err fault.WrongStore) = is_own s v ≡ false
-ChecksReference s t class v ty (Err fault.Unrooted) = (is_own s v ≡ true) × IsGone s t v
-ChecksReference s t class v ty (Err fault.TypeMismatch) = (is_own s v ≡ true) × FitsAs s t class v ty false
+ChecksReference s t class v ty (Ok done) = (is_own_reference s v ≡ true) × FitsAs s t class v ty true
+ChecksReference s t class v ty (Err fault.WrongStore) = is_own_reference s v ≡ false
+ChecksReference s t class v ty (Err fault.Unrooted) = (is_own_reference s v ≡ true) × HasGoneRoot s t v
+ChecksReference s t class v ty (Err fault.TypeMismatch) = (is_own_reference s v ≡ true) × FitsAs s t class v ty false
 ChecksReference s t class v ty (Err fault.OutOfBounds) = ⊥
 ChecksReference s t class v ty (Err fault.Immutable) = ⊥
 ChecksReference s t class v ty (Err fault.LengthMismatch) = ⊥
@@ -129,7 +129,7 @@ KeepsWord s t place v bytes = (bytes ≡ word_bytes (raw_word bytes)) × ((r : R
 -- what storing a value answers, and the bytes after it
 abbrev pub StoresWord : {D : Type 0} → StoreView D → Table D → Placing → WasmValue → List ℕ → Result (Unit {0}) RootFault → Type 0
 StoresWord s t place v bytes (Ok done) = KeepsWord s t place v bytes
-StoresWord s t place v bytes (Err root_fault.WrongStore) = is_own s v ≡ false
-StoresWord s t place v bytes (Err root_fault.Unrooted) = (is_own s v ≡ true) × IsGone s t v
+StoresWord s t place v bytes (Err root_fault.WrongStore) = is_own_reference s v ≡ false
+StoresWord s t place v bytes (Err root_fault.Unrooted) = (is_own_reference s v ≡ true) × HasGoneRoot s t v
 StoresWord s t place v bytes (Err root_fault.RootsFull) = ⊥
 StoresWord s t place v bytes (Err root_fault.Memory) = ⊥

@@ -17,7 +17,7 @@ pub trait WasmTy {
     ghost use Rattle.gc_store.specs.OwnedWords.{HoldsThere};
     ghost use Rattle.gc_store.specs.Stores.{IsSameStore};
     ghost use Rattle.gc_wasm_types.specs.Loads.{CanLoad, LoadsValue, RefusesLoad, ValueIsOf, KeepsRoom, WantsNoMemory};
-    ghost use Rattle.gc_wasm_types.specs.Values.{WasmValue, WasmForm, named, is_own, reference_type, ChecksType, raw_word, StoresWord};
+    ghost use Rattle.gc_wasm_types.specs.Values.{WasmValue, WasmForm, value_root, is_own_reference, reference_type, ChecksType, raw_word, StoresWord};
 
     /// Null, the number, or the root that it names.
     ghost value: { Self → WasmValue };
@@ -31,11 +31,11 @@ pub trait WasmTy {
 
     /// Whether it may be given to a store: false exactly for another store's handle.
     fn compatible_with_store<H: GcHeap, D: Drop>(&self, store: &Store<H, D>) -> bool
-        ensures { result ≡ is_own store.now (value self.now) };
+        ensures { result ≡ is_own_reference store.now (value self.now) };
 
     /// Whether it is a handle: true exactly for one that is there.
     fn is_vmgcref_and_points_to_object(&self) -> bool
-        ensures { result ≡ is_some (named (value self.now)) };
+        ensures { result ≡ is_some (value_root (value self.now)) };
 
     /// Whether it fits a type: `WrongStore`, `Unrooted`, and `TypeMismatch` where it doesn't, and always for an `I31` that is
     /// there. It takes no memory and changes nothing.

@@ -10,7 +10,7 @@ ghost use Rattle.gc_store.specs.OwnedWords.{HoldsThere};
 ghost use Rattle.gc_store.specs.Stores.{IsSameStore, scoped_places};
 ghost use Rattle.gc_store.specs.Kinds.{NamesKind};
 ghost use Rattle.gc_store.specs.RawWords.{IsRawWord};
-ghost use Rattle.gc_objects.specs.Given.{root_of};
+ghost use Rattle.gc_objects.specs.Given.{root_of_handle};
 ghost use Rattle.gc_objects.specs.RawWords.{TakesWord};
 ghost use Rattle.gc_wasm_types.specs.Loads.{OwnsWordOf, CanLoad};
 ghost use Rattle.gc_wasm_types.specs.Values.{handle, references, raw_word, word_bytes, StoresWord};
@@ -57,7 +57,7 @@ pub(crate) fn load_scoped<H: GcHeap, D: Drop, T: GcRef>(
     requires { IsRawWord D H.KIND store.old T.KIND (raw_word from.now) }
     ensures takes { (t : Table D) (place : Placing) (a : Account) (r : Reference) → HoldsThere H.KIND store.old t place a → IsWord place r (raw_word from.now)
         → TakesWord H.KIND t place a r result store.new }
-    ensures null { IfOk result (λ found. (root_of found ≡ None) ↔ (raw_word from.now ≡ 0)) }
+    ensures null { IfOk result (λ found. (root_of_handle found ≡ None) ↔ (raw_word from.now ≡ 0)) }
     ensures kind { IfOk result (λ found. IfSome found (λ handle. NamesKind D H.KIND store.new T.KIND handle.index)) }
     ensures same { IsSameStore store.old store.new }
     ensures spare { scoped_places store.old ≤ scoped_places store.new }

@@ -4,7 +4,7 @@ ghost use Rattle.std.specs.Prelude.{ℕ, IfOk};
 ghost use Rattle.gc_model.specs.Table.{Table};
 ghost use Rattle.gc_policy.specs.Accounts.{Account, HoldsAccount};
 ghost use Rattle.gc_store.specs.Stores.{IsSameStore};
-ghost use Rattle.gc_image_collect.specs.Answers.{OnlyPushed};
+ghost use Rattle.gc_image_collect.specs.Answers.{DropsImageRoots};
 ghost use Rattle.gcsh_images.specs.Saving.{TellsSave};
 
 use gc_heap::GcHeap;
@@ -19,7 +19,7 @@ pub fn save_report<H: GcHeap>(
     store: &mut Store<H, u64>,
 ) -> Result<Vec<u8>, AllocError>
     ensures tells { IfOk result (λ text. (t : Table ℕ) (a : Account) → HoldsAccount H.KIND store.old t a → TellsSave t text.items) }
-    ensures leaves { (t : Table ℕ) (a : Account) → HoldsAccount H.KIND store.old t a → OnlyPushed H.KIND t a store.new }
+    ensures leaves { (t : Table ℕ) (a : Account) → HoldsAccount H.KIND store.old t a → DropsImageRoots H.KIND t a store.new }
     ensures same { IsSameStore store.old store.new }
 {
     match save_image(alloc, store) {

@@ -8,10 +8,10 @@ use Rattle.std.proofs.lemmas.List.Sums.{sum_by-cons}
 use Rattle.gc_types.specs.declared.kind.Layouts.{Layouts}
 use Rattle.gc_types.specs.declared.kind.Layouts.TheVariants.{Null, Counting, Copying}
 use Rattle.gc_memory.proofs.ListLemmas.{only_item}
-use Rattle.gc_model.specs.OwnedRoots.{handles_changed, with_handles}
+use Rattle.gc_model.specs.OwnedRoots.{handles_changed, handled_roots}
 use Rattle.gc_model.specs.Reach.{HasNumber, IsKept, IsReached, NamesPosition, Reachable, Reached, by_start, by_step, owned_references, present, root_references, slot_references}
 use Rattle.gc_model.specs.Stores.{StoreView}
-use Rattle.gc_model.specs.Table.{Table, Owned, Scoped, empty_slot, global_count, start}
+use Rattle.gc_model.specs.Table.{Table, Owned, Scoped, null_slot, global_count, start}
 use Rattle.gc_model.specs.Values.{Reference, null, at}
 use Rattle.gc_model.proofs.Members.{get_contains}
 use Rattle.gc_policy.specs.Accounts.{Account, HoldsAccount}
@@ -27,11 +27,11 @@ use Rattle.gcsh_lists.specs.Filling.{IsAlone, owned_of}
 use Rattle.gcsh_lists.specs.Reports.{HoldsEntries}
 
 -- a root with one handle goes with it, and one of another number stays
-drops_first : (n : ℕ) (r : Reference) (rest : List Owned) → with_handles (handles_changed n (λ m. m - 1) (record { number = n; reference = r; handles = 1 } ∷ rest)) ≡ with_handles (handles_changed n (λ m. m - 1) rest)
-drops_first n r rest = ap (λ b. with_handles (cond b (record { number = n; reference = r; handles = 0 }) (record { number = n; reference = r; handles = 1 }) ∷ handles_changed n (λ m. m - 1) rest)) (eq-eqb n n refl)
+drops_first : (n : ℕ) (r : Reference) (rest : List Owned) → handled_roots (handles_changed n (λ m. m - 1) (record { number = n; reference = r; handles = 1 } ∷ rest)) ≡ handled_roots (handles_changed n (λ m. m - 1) rest)
+drops_first n r rest = ap (λ b. handled_roots (cond b (record { number = n; reference = r; handles = 0 }) (record { number = n; reference = r; handles = 1 }) ∷ handles_changed n (λ m. m - 1) rest)) (eq-eqb n n refl)
 
-keeps_second : (n k : ℕ) (r : Reference) → k ≢ n → with_handles (handles_changed n (λ m. m - 1) (record { number = k; reference = r; handles = 1 } ∷ [])) ≡ record { number = k; reference = r; handles = 1 } ∷ []
-keeps_second n k r differ = ap (λ b. with_handles (cond b (record { number = k; reference = r; handles = 0 }) (record { number = k; reference = r; handles = 1 }) ∷ [])) (ne_eqb k n differ)
+keeps_second : (n k : ℕ) (r : Reference) → k ≢ n → handled_roots (handles_changed n (λ m. m - 1) (record { number = k; reference = r; handles = 1 } ∷ [])) ≡ record { number = k; reference = r; handles = 1 } ∷ []
+keeps_second n k r differ = ap (λ b. handled_roots (cond b (record { number = k; reference = r; handles = 0 }) (record { number = k; reference = r; handles = 1 }) ∷ [])) (ne_eqb k n differ)
 
 -- where an owned root was made for a version, and the one before is given up
 module _ (layouts : Layouts) (s : StoreView ℕ) (t : Table ℕ) (a : Account) (holds : HoldsAccount layouts s t a) (mid new : StoreView ℕ) (begun : IsSameStore s mid) (over : IsSameStore mid new)
@@ -41,7 +41,7 @@ module _ (layouts : Layouts) (s : StoreView ℕ) (t : Table ℕ) (a : Account) (
   owned_behind None is = sym (append-nil t.owned)
   owned_behind (Some handle) is = ap (λ (h : GcRootIndex). t.owned ++ record { number = h.generation; reference = r'; handles = 1 } ∷ []) (sym is)
 
-  kept_behind : (n : ℕ) (m : Option GcRootIndex) → HasNewRoot mid t m → n ≢ t.owns → with_handles (handles_changed n (λ k. k - 1) (owned_of m r')) ≡ owned_of m r'
+  kept_behind : (n : ℕ) (m : Option GcRootIndex) → HasNewRoot mid t m → n ≢ t.owns → handled_roots (handles_changed n (λ k. k - 1) (owned_of m r')) ≡ owned_of m r'
   kept_behind n None is differ = refl
   kept_behind n (Some handle) is differ = keeps_second n handle.generation r' (λ e. differ (sym e ∙ ap (λ (h : GcRootIndex). h.generation) is))
 
@@ -55,7 +55,7 @@ module _ (layouts : Layouts) (s : StoreView ℕ) (t : Table ℕ) (a : Account) (
       let differ : handle.generation ≢ t.owns = λ e. absurd (let same = sym named ∙ e in omega (arith, early, same)) in
       let there : after.owned ≡ owned_of (Some handle) r ++ owned_of made r' = owned ∙ owned_behind made has_new ∙ ap (λ (os : List Owned). os ++ owned_of made r') alone in
       subst (λ (os : List Owned). HoldsAccount layouts new (record after { owned = os }) b)
-      ((λ i. with_handles (handles_changed (number i) (λ m. m - 1) (there i))) ∙ drops_first handle.generation r (owned_of made r') ∙ kept_behind handle.generation made has_new differ) holds_new
+      ((λ i. handled_roots (handles_changed (number i) (λ m. m - 1) (there i))) ∙ drops_first handle.generation r (owned_of made r') ∙ kept_behind handle.generation made has_new differ) holds_new
   given_up (Some handle) r names alone (false, (none, holds_new)) =
       let there : after.owned ≡ owned_of (Some handle) r ++ owned_of made r' = owned ∙ owned_behind made has_new ∙ ap (λ (os : List Owned). os ++ owned_of made r') alone in
       let root : Owned = record { number = handle.generation; reference = r; handles = 1 } in
@@ -72,9 +72,9 @@ module _ (layouts : Layouts) (s : StoreView ℕ) (t : Table ℕ) (a : Account) (
   }
 
 -- no root of a new table names an object
-unset : (n p : ℕ) → ¬ Contains (slot_references (replicate n empty_slot) ++ []) (at p)
+unset : (n p : ℕ) → ¬ Contains (slot_references (replicate n null_slot) ++ []) (at p)
 unset zero p among = omega (arith, among.1)
-unset (suc n) p among = elim (Contains-append_cases (null ∷ []) (slot_references (replicate n empty_slot) ++ []) (at p) among) [
+unset (suc n) p among = elim (Contains-append_cases (null ∷ []) (slot_references (replicate n null_slot) ++ []) (at p) among) [
   | inl one ↦ cc (only_item null (at p) one)
   | inr later ↦ unset n p later
 ]

@@ -31,7 +31,7 @@ use Rattle.gc_maps.specs.Answers.{AnswersMap}
 use Rattle.gc_maps.specs.Maps.{IntMap, MapOfStands, StandsForMapOf}
 use Rattle.gc_maps.proofs.Staying.{map_stays}
 use Rattle.gcsh_lists.specs.declared.fill.Filled.{Filled}
-use Rattle.gcsh_lists.specs.Filling.{Fills, FillsUpTo, GivesUp, Goes, HoldsProgress, HoldsWithin, Inserts, IsCounted, Progress, Step, begin_at, key_of, owned_of, progress_of, refused, taken}
+use Rattle.gcsh_lists.specs.Filling.{Fills, FillsUpTo, GivesUp, InsertGoes, HoldsProgress, HoldsWithin, Inserts, IsCountedRefusal, InsertProgress, InsertStep, begin_at, insert_key, owned_of, progress_of, refused, taken}
 use Rattle.gcsh_lists.proofs.AloneLemmas.{given_up, names_alone}
 
 -- a kit is still the store's
@@ -39,7 +39,7 @@ kit_still : (s new : StoreView ℕ) (kit : Kit) → IsSameStore s new → is_kit
 kit_still s new kit same is =
     ap (λ n. (kit.store_id.engine == n) && (kit.store_id.number == new.number)) same.engine ∙ ap (λ n. (kit.store_id.engine == s.engine) && (kit.store_id.number == n)) same.number ∙ is
 
-module _ (layouts : Layouts) (limit : Option ℕ) (kit : Kit) (p : Progress) (held : HoldsProgress layouts limit kit p) where
+module _ (layouts : Layouts) (limit : Option ℕ) (kit : Kit) (p : InsertProgress) (held : HoldsProgress layouts limit kit p) where
   -- the version is the store's
   pub version_own : is_version_of p.store p.version ≡ true
   version_own = by p.version held.stands.reference held.stands.names
@@ -111,7 +111,7 @@ module _ (layouts : Layouts) (limit : Option ℕ) (kit : Kit) (p : Progress) (he
 
     -- the insert was taken, and the version before given up
     pub goes_taken : (map : HeapMap) (mid : StoreView ℕ) → IsSameStore p.store mid → IsSameStore p.store new → IsSameStore mid new → Inserts layouts limit kit key value p (Ok map) limits' mid → GivesUp layouts mid p.version new
-        → (q : Filled) → q.map.root ≡ map.root → q.refused ≡ p.refused → Goes layouts limit kit key value p new limits' q
+        → (q : Filled) → q.map.root ≡ map.root → q.refused ≡ p.refused → InsertGoes layouts limit kit key value p new limits' q
     goes_taken map mid begun all over inserts gives_up q same counted =
         let inserted = inserts held.table held.account held.holds held.stands in
         let answers = inserted.1 in
@@ -157,14 +157,14 @@ module _ (layouts : Layouts) (limit : Option ℕ) (kit : Kit) (p : Progress) (he
         }
 
     -- what a refusal that counts leaves
-    leaves_of : (why : ListFault) → IsCounted why → Inserts layouts limit kit key value p (Err why) limits' new → Left
+    leaves_of : (why : ListFault) → IsCountedRefusal why → Inserts layouts limit kit key value p (Err why) limits' new → Left
     leaves_of fault.WrongStore counts inserts = absurd counts
     leaves_of fault.RootsFull counts inserts = left_under limits' (inserts held.table held.account held.holds held.stands).0 (inserts held.table held.account held.holds held.stands).1.1
     leaves_of (fault.HeapOutOfMemory f) counts inserts = left_under limits' (inserts held.table held.account held.holds held.stands).0 (inserts held.table held.account held.holds held.stands).1.1
     leaves_of fault.Memory counts inserts = absurd counts
 
     -- the insert was refused
-    pub goes_refused : (why : ListFault) → IsCounted why → IsSameStore p.store new → Inserts layouts limit kit key value p (Err why) limits' new → (q : Filled) → q.map.root ≡ p.version → q.refused ≡ p.refused + 1 → Goes layouts limit kit key value p new limits' q
+    pub goes_refused : (why : ListFault) → IsCountedRefusal why → IsSameStore p.store new → Inserts layouts limit kit key value p (Err why) limits' new → (q : Filled) → q.map.root ≡ p.version → q.refused ≡ p.refused + 1 → InsertGoes layouts limit kit key value p new limits' q
     goes_refused why counts same inserts q version counted =
         record {
           entries = p.entries;
@@ -185,11 +185,11 @@ module _ (layouts : Layouts) (limits : Limits) (kit : Kit) (inserts : ℕ) (star
   fills_none f root count held = record {
     entries = finite.from_sorted [];
     fills = λ i. record { store = start; limits = limits; version = root i; entries = finite.from_sorted []; refused = count i };
-    held = subst (λ (p : Progress). HoldsProgress layouts limits.limit kit p) (λ i. record { store = start; limits = limits; version = sym root i; entries = finite.from_sorted []; refused = sym count i }) held;
+    held = subst (λ (p : InsertProgress). HoldsProgress layouts limits.limit kit p) (λ i. record { store = start; limits = limits; version = sym root i; entries = finite.from_sorted []; refused = sym count i }) held;
   }
 
   -- one insert more
-  pub fills_more : (k : ℕ) (s new : StoreView ℕ) (between limits' : Limits) (f after : Filled) (key value : ℤ) → key ≡ key_of inserts (suc k) → value ≡ pos (suc k) → (upto : FillsUpTo layouts limits kit inserts start k s between f) → Goes layouts limits.limit kit key value (progress_of s between f upto.entries) new limits' after
+  pub fills_more : (k : ℕ) (s new : StoreView ℕ) (between limits' : Limits) (f after : Filled) (key value : ℤ) → key ≡ insert_key inserts (suc k) → value ≡ pos (suc k) → (upto : FillsUpTo layouts limits kit inserts start k s between f) → InsertGoes layouts limits.limit kit key value (progress_of s between f upto.entries) new limits' after
       → FillsUpTo layouts limits kit inserts start (k + 1) new limits' after
   fills_more k s new between limits' f after key value same_key same_value upto goes = record {
     entries = goes.entries;
@@ -197,8 +197,8 @@ module _ (layouts : Layouts) (limits : Limits) (kit : Kit) (inserts : ℕ) (star
       progress_of s between f upto.entries,
       (
         upto.fills,
-        subst (λ (x : ℤ). Step layouts limits.limit kit x (pos (suc k)) (progress_of s between f upto.entries) (progress_of new limits' after goes.entries)) same_key
-            (subst (λ (x : ℤ). Step layouts limits.limit kit key x (progress_of s between f upto.entries) (progress_of new limits' after goes.entries)) same_value goes.step),
+        subst (λ (x : ℤ). InsertStep layouts limits.limit kit x (pos (suc k)) (progress_of s between f upto.entries) (progress_of new limits' after goes.entries)) same_key
+            (subst (λ (x : ℤ). InsertStep layouts limits.limit kit key x (progress_of s between f upto.entries) (progress_of new limits' after goes.entries)) same_value goes.step),
       ),
     );
     held = goes.held;
@@ -209,8 +209,8 @@ pub passed_on : (z : ℤ) (n : ℕ) → z ≡ pos n → n < 2 ^ 63 → to_z w64 
 passed_on z n is small = ap (λ (x : ℤ). to_z w64 (of_z w64 x)) is ∙ to_z-of_z w64 (pos n) (record { sfits = omega (arith, small) })
 
 -- the same under the same limit
-pub goes_under : (layouts : Layouts) (kit : Kit) (p : Progress) (new : StoreView ℕ) (limits' : Limits) (f : Filled) {key value : ℤ} (l l' : Option ℕ) → l ≡ l' → Goes layouts l kit key value p new limits' f → Goes layouts l' kit key value p new limits' f
-goes_under layouts kit p new limits' f {key} {value} l l' same goes = subst (λ (m : Option ℕ). Goes layouts m kit key value p new limits' f) same goes
+pub goes_under : (layouts : Layouts) (kit : Kit) (p : InsertProgress) (new : StoreView ℕ) (limits' : Limits) (f : Filled) {key value : ℤ} (l l' : Option ℕ) → l ≡ l' → InsertGoes layouts l kit key value p new limits' f → InsertGoes layouts l' kit key value p new limits' f
+goes_under layouts kit p new limits' f {key} {value} l l' same goes = subst (λ (m : Option ℕ). InsertGoes layouts m kit key value p new limits' f) same goes
 
-pub held_under : (layouts : Layouts) (kit : Kit) (p : Progress) (l l' : Option ℕ) → l' ≡ l → HoldsProgress layouts l kit p → HoldsProgress layouts l' kit p
+pub held_under : (layouts : Layouts) (kit : Kit) (p : InsertProgress) (l l' : Option ℕ) → l' ≡ l → HoldsProgress layouts l kit p → HoldsProgress layouts l' kit p
 held_under layouts kit p l l' same held = subst (λ (m : Option ℕ). HoldsProgress layouts m kit p) (sym same) held

@@ -19,7 +19,7 @@ use Rattle.gc_model.specs.Stores.{StoreView}
 use Rattle.gc_policy.specs.Accounts.{Account, HoldsAccount}
 use Rattle.gc_store.specs.Stores.{IsSameStore}
 use Rattle.gc_lists.specs.declared.kit.Kit.{Kit}
-use Rattle.gc_lists.specs.Frames.{ChangesRoots, Leaves}
+use Rattle.gc_lists.specs.Frames.{ChangesOwned, Leaves}
 use Rattle.gc_lists.specs.Kits.{IsKit, MakesKit, cell_type, declare_kit, is_kit_of, kit_behind, node_type}
 use Rattle.gc_lists.specs.declared.fault.ListFault.{ListFault}
 use Rattle.gc_lists.specs.declared.fault.ListFault.TheVariants as fault
@@ -31,7 +31,7 @@ use Rattle.gc_maps.specs.Trees.{leaf}
 use Rattle.gc_maps.proofs.Reaching.{map_nodes}
 use Rattle.gc_maps.proofs.Staying.{map_stays}
 use Rattle.gcsh_lists.specs.declared.fill.Filled.{Filled}
-use Rattle.gcsh_lists.specs.Filling.{FillsUpTo, HoldsProgress, HoldsWithin, IsAlone, Progress, begin_at, progress_of}
+use Rattle.gcsh_lists.specs.Filling.{FillsUpTo, HoldsProgress, HoldsWithin, IsAlone, InsertProgress, begin_at, progress_of}
 use Rattle.gcsh_lists.proofs.AloneLemmas.{holds_entries, reached_alone}
 use Rattle.gcsh_lists.proofs.FillLemmas.{version_own}
 use Rattle.gcsh_lists.specs.Reports.{TellsFill, fill_text, filled, full, sum_of}
@@ -86,7 +86,7 @@ kit_known layouts old start result kit makes is t a holds = subst (λ (r : Resul
 
 module _ (layouts : Layouts) (limits : Limits) (inserts : ℕ) (old start full_store : StoreView ℕ) (kit : Kit) (made : (t : Table ℕ) (a : Account) → HoldsAccount layouts old t a → MakesKit layouts t a (Ok kit) start) (limits' : Limits) (f : Filled)
     (upto : FillsUpTo layouts limits kit inserts start inserts full_store limits' f) where
-  abbrev done : Progress
+  abbrev done : InsertProgress
   done = progress_of full_store limits' f upto.entries
 
   -- the premise of copying
@@ -110,10 +110,10 @@ module _ (layouts : Layouts) (limits : Limits) (inserts : ℕ) (old start full_s
       fails_as why is = subst Copies is copies
 
   -- roots that were pushed change no pages
-  roots_within : (t u : Table ℕ) (owned : List Owned) → ChangesRoots t owned u → MayHave limits.limit t.pages → MayHave limits.limit u.pages
+  roots_within : (t u : Table ℕ) (owned : List Owned) → ChangesOwned t owned u → MayHave limits.limit t.pages → MayHave limits.limit u.pages
   roots_within t u owned changed within = subst (MayHave limits.limit) (sym (ap (λ (v : Table ℕ). v.pages) changed.rest)) within
 
-  left_within : (new : StoreView ℕ) → Leaves layouts (ChangesRoots upto.held.table upto.held.table.owned) new → HoldsWithin layouts limits.limit new
+  left_within : (new : StoreView ℕ) → Leaves layouts (ChangesOwned upto.held.table upto.held.table.owned) new → HoldsWithin layouts limits.limit new
   left_within new leaves = record {
     table = leaves.after;
     holds = (leaves.holds.place, leaves.holds.holds);

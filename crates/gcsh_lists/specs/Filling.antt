@@ -32,11 +32,11 @@ abbrev pub key_count : ℕ
 key_count = 1000
 
 -- the key of the insert with that number, of so many
-abbrev pub key_of : ℕ → ℕ → ℤ
-key_of inserts number = pos (seed_of inserts number % key_count)
+abbrev pub insert_key : ℕ → ℕ → ℤ
+insert_key inserts number = pos (seed_of inserts number % key_count)
 
 -- How far inserts have come: what is seen of the store, what the limiter tells, the version that stands for the entries, and how many were refused.
-pub record Progress : Type 0 where
+pub record InsertProgress : Type 0 where
   pub store : StoreView ℕ
   pub limits : Limits
   pub version : Option GcRootIndex
@@ -44,7 +44,7 @@ pub record Progress : Type 0 where
   pub refused : ℕ
 
 -- so where that struct tells it
-abbrev pub progress_of : StoreView ℕ → Limits → Filled → IntMap → Progress
+abbrev pub progress_of : StoreView ℕ → Limits → Filled → IntMap → InsertProgress
 progress_of store limits filled m = record { store = store; limits = limits; version = filled.map.root; entries = m; refused = filled.refused }
 
 -- the store holds some table, whose pages a limit grants
@@ -64,7 +64,7 @@ pub record IsAlone (t : Table ℕ) (version : Option GcRootIndex) (r : Reference
   pub others : (p : ℕ) → ¬ Contains (root_references (record t { owned = [] })) (at p)
 
 -- the kit and the version stand, and this alone, in some table that the store holds, whose pages a limit grants
-pub record HoldsProgress (layouts : Layouts) (limit : Option ℕ) (kit : Kit) (p : Progress) : Type 0 where
+pub record HoldsProgress (layouts : Layouts) (limit : Option ℕ) (kit : Kit) (p : InsertProgress) : Type 0 where
   pub table : Table ℕ
   pub account : Account
   pub holds : HoldsAccount layouts p.store table account
@@ -75,12 +75,12 @@ pub record HoldsProgress (layouts : Layouts) (limit : Option ℕ) (kit : Kit) (p
   pub alone : IsAlone table p.version stands.reference
 
 -- before the first one
-abbrev pub begin_at : StoreView ℕ → Limits → Progress
+abbrev pub begin_at : StoreView ℕ → Limits → InsertProgress
 begin_at store limits = record { store = store; limits = limits; version = None; entries = finite.from_sorted []; refused = 0 }
 
 -- what an insert into the version answers and leaves under a limit of pages, in each table that the store holds and in which the version
 -- stands for the entries, by what the limiter tells before and after
-abbrev pub Inserts : Layouts → Option ℕ → Kit → ℤ → ℤ → Progress → Result HeapMap ListFault → Limits → StoreView ℕ → Type 0
+abbrev pub Inserts : Layouts → Option ℕ → Kit → ℤ → ℤ → InsertProgress → Result HeapMap ListFault → Limits → StoreView ℕ → Type 0
 Inserts layouts limit kit key value p result limits' new = (t : Table ℕ) (a : Account) → HoldsAccount layouts p.store t a → StandsForMapOf p.store t p.version kit.node p.entries
     → (limits'.limit ≡ limit) × AnswersMap layouts p.store.alloc_counter kit (finite.insert p.entries key value) t p.limits limits' result new
 
@@ -89,30 +89,30 @@ abbrev pub GivesUp : Layouts → StoreView ℕ → Option GcRootIndex → StoreV
 GivesUp layouts old version new = (t : Table ℕ) (a : Account) → HoldsAccount layouts old t a → Releases layouts old t a version new
 
 -- a refusal that is counted: roots or room for nodes are wanting
-abbrev pub IsCounted : ListFault → Type 0
-IsCounted fault.WrongStore = ⊥
-IsCounted fault.RootsFull = Unit {0}
-IsCounted (fault.HeapOutOfMemory f) = Unit {0}
-IsCounted fault.Memory = ⊥
+abbrev pub IsCountedRefusal : ListFault → Type 0
+IsCountedRefusal fault.WrongStore = ⊥
+IsCountedRefusal fault.RootsFull = Unit {0}
+IsCountedRefusal (fault.HeapOutOfMemory f) = Unit {0}
+IsCountedRefusal fault.Memory = ⊥
 
 -- An insert was taken, and then the version before was given up; or it was refused, and the version stays. The store is the same one.
-pub data Step (layouts : Layouts) (limit : Option ℕ) (kit : Kit) (key value : ℤ) (p q : Progress) : Type 0 where
+pub data InsertStep (layouts : Layouts) (limit : Option ℕ) (kit : Kit) (key value : ℤ) (p q : InsertProgress) : Type 0 where
   taken : (map : HeapMap) (between : StoreView ℕ) → Inserts layouts limit kit key value p (Ok map) q.limits between → GivesUp layouts between p.version q.store
       → IsSameStore p.store between → IsSameStore between q.store
-      → q ≡ record { store = q.store; limits = q.limits; version = map.root; entries = finite.insert p.entries key value; refused = p.refused } → Step layouts limit kit key value p q
-  refused : (why : ListFault) → Inserts layouts limit kit key value p (Err why) q.limits q.store → IsCounted why → IsSameStore p.store q.store
-      → q ≡ record p { store = q.store; limits = q.limits; refused = p.refused + 1 } → Step layouts limit kit key value p q
+      → q ≡ record { store = q.store; limits = q.limits; version = map.root; entries = finite.insert p.entries key value; refused = p.refused } → InsertStep layouts limit kit key value p q
+  refused : (why : ListFault) → Inserts layouts limit kit key value p (Err why) q.limits q.store → IsCountedRefusal why → IsSameStore p.store q.store
+      → q ≡ record p { store = q.store; limits = q.limits; refused = p.refused + 1 } → InsertStep layouts limit kit key value p q
 
 -- so many of the inserts were made, whose values are their numbers, where a limiter told these limits at first
-abbrev pub Fills : Layouts → Limits → Kit → ℕ → StoreView ℕ → ℕ → Progress → Type 0
+abbrev pub Fills : Layouts → Limits → Kit → ℕ → StoreView ℕ → ℕ → InsertProgress → Type 0
 Fills layouts limits kit inserts start zero q = q ≡ begin_at start limits
 Fills layouts limits kit inserts start (suc k) q =
-    (p : Progress) × (Fills layouts limits kit inserts start k p × Step layouts limits.limit kit (key_of inserts (suc k)) (pos (suc k)) p q)
+    (p : InsertProgress) × (Fills layouts limits kit inserts start k p × InsertStep layouts limits.limit kit (insert_key inserts (suc k)) (pos (suc k)) p q)
 
 -- an insert on the way came to this, and all stands still
-pub record Goes (layouts : Layouts) (limit : Option ℕ) (kit : Kit) (key value : ℤ) (p : Progress) (store : StoreView ℕ) (limits' : Limits) (filled : Filled) : Type 0 where
+pub record InsertGoes (layouts : Layouts) (limit : Option ℕ) (kit : Kit) (key value : ℤ) (p : InsertProgress) (store : StoreView ℕ) (limits' : Limits) (filled : Filled) : Type 0 where
   pub entries : IntMap
-  pub step : Step layouts limit kit key value p (progress_of store limits' filled entries)
+  pub step : InsertStep layouts limit kit key value p (progress_of store limits' filled entries)
   pub held : HoldsProgress layouts limit kit (progress_of store limits' filled entries)
 
 -- so did the first so many of the inserts

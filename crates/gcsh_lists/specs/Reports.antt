@@ -13,11 +13,11 @@ use Rattle.gc_policy.specs.Accounts.{Account, HoldsAccount}
 use Rattle.gc_store.specs.Stores.{IsSameStore}
 use Rattle.gc_lists.specs.declared.fault.ListFault.TheVariants as fault
 use Rattle.gc_lists.specs.declared.kit.Kit.{Kit}
-use Rattle.gc_lists.specs.Frames.{ChangesRoots}
+use Rattle.gc_lists.specs.Frames.{ChangesOwned}
 use Rattle.gc_lists.specs.Kits.{MakesKit}
 use Rattle.gc_maps.specs.Copies.{FailsToCopyEntries}
 use Rattle.gc_maps.specs.Maps.{IntMap, StandsForMapOf}
-use Rattle.gcsh_lists.specs.Filling.{Fills, Progress}
+use Rattle.gcsh_lists.specs.Filling.{Fills, InsertProgress}
 
 -- the sum of the values, none of which is negative
 abbrev pub sum_of : IntMap → ℕ
@@ -32,7 +32,7 @@ fill_text entries refused held sum =
     number_line (codes "entries") entries ++ (number_line (codes "refused") refused ++ (number_line (codes "held") held ++ number_line (codes "sum") sum))
 
 -- A kit was made in the store, and so many inserts became of this with it.
-pub record Filled (layouts : Layouts) (limits : Limits) (inserts : ℕ) (old : StoreView ℕ) (kit : Kit) (p : Progress) : Type 0 where
+pub record FilledMap (layouts : Layouts) (limits : Limits) (inserts : ℕ) (old : StoreView ℕ) (kit : Kit) (p : InsertProgress) : Type 0 where
   pub start : StoreView ℕ
   pub kit_made : (t : Table ℕ) (a : Account) → HoldsAccount layouts old t a → MakesKit layouts t a (Ok kit) start
   pub fills : Fills layouts limits kit inserts start inserts p
@@ -48,13 +48,13 @@ HoldsEntries Copying entries held = held ≡ entries
 -- the pages that the heap has.
 pub record TellsFilled (layouts : Layouts) (limits : Limits) (inserts : ℕ) (old : StoreView ℕ) (text : List ℕ) (new : StoreView ℕ) : Type 0 where
   pub kit : Kit
-  pub done : Progress
-  pub filled : Filled layouts limits inserts old kit done
+  pub done : InsertProgress
+  pub filled : FilledMap layouts limits inserts old kit done
   pub before : Table ℕ
   pub account : Account
   pub holds : HoldsAccount layouts done.store before account
   pub table : Table ℕ
-  pub changed : ChangesRoots before before.owned table
+  pub changed : ChangesOwned before before.owned table
   pub same : IsSameStore done.store new
   pub kept : HoldsKept layouts new table
   pub stands : StandsForMapOf new table done.version kit.node done.entries
@@ -67,8 +67,8 @@ pub record TellsFilled (layouts : Layouts) (limits : Limits) (inserts : ℕ) (ol
 -- The entries could not be read for want of roots: the text is the name of that refusal. The limit grants the heap's pages.
 pub record TellsFull (layouts : Layouts) (limits : Limits) (inserts : ℕ) (old : StoreView ℕ) (text : List ℕ) (new : StoreView ℕ) : Type 0 where
   pub kit : Kit
-  pub done : Progress
-  pub filled : Filled layouts limits inserts old kit done
+  pub done : InsertProgress
+  pub filled : FilledMap layouts limits inserts old kit done
   pub table : Table ℕ
   pub account : Account
   pub holds : HoldsAccount layouts done.store table account

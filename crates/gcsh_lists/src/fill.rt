@@ -3,7 +3,7 @@
 ghost use Rattle.std.specs.Prelude.{◌≡◌, ◌+◌, ◌≤◌, IfOk, OnErr};
 ghost use Rattle.gc_store.specs.Stores.{IsSameStore};
 ghost use Rattle.gc_maps.specs.Maps.{IntMap};
-ghost use Rattle.gcsh_lists.specs.Filling.{FillsUpTo, Goes, HoldsProgress, HoldsWithin, begin_at, max_inserts, progress_of};
+ghost use Rattle.gcsh_lists.specs.Filling.{FillsUpTo, InsertGoes, HoldsProgress, HoldsWithin, begin_at, max_inserts, progress_of};
 
 use gc_heap::GcHeap;
 use gc_lists::{Kit, ListFault};
@@ -66,7 +66,7 @@ fn insert<H: GcHeap, L: ResourceLimiter>(
     requires few { filled.refused ≤ max_inserts }
     ensures wants { OnErr result (HoldsWithin H.KIND (L.limits limiter.old).limit store.new) }
     ensures goes { IfOk result (λ after. (m : IntMap) → HoldsProgress H.KIND (L.limits limiter.old).limit kit.now (progress_of store.old (L.limits limiter.old) filled m)
-        → Goes H.KIND (L.limits limiter.old).limit kit.now key value (progress_of store.old (L.limits limiter.old) filled m) store.new
+        → InsertGoes H.KIND (L.limits limiter.old).limit kit.now key value (progress_of store.old (L.limits limiter.old) filled m) store.new
         (L.limits limiter.new) after) }
     ensures limit { (L.limits limiter.new).limit ≡ (L.limits limiter.old).limit }
     ensures few { IfOk result (λ after. after.refused ≤ filled.refused + 1) }

@@ -16,13 +16,13 @@ use Rattle.gc_paths.specs.declared.search.Found.{Found}
 use Rattle.gc_paths.specs.Answers.{NeedsRoots}
 use Rattle.gc_paths.specs.Left.{FoundAll}
 use Rattle.gc_paths.specs.Progress.{Basis}
-use Rattle.gc_paths.specs.Reports.{Told, entries, IsReport}
+use Rattle.gc_paths.specs.Reports.{Told, told_entries, IsReport}
 use Rattle.gcsh_paths.specs.Answers.{IsReportText}
 use Rattle.gc_script.specs.Shapes.{shown_object}
 use Rattle.gcsh_paths.specs.Lines.{line_text, lines_from}
 
 -- what is told under a number, by its entry
-pub at_entry : (told : List Told) (n : ℕ) (d : PathEntry) → n < length told → (x : Told) × ((slice_get told n ≡ Some x) × (x.entry ≡ get_or (entries told) n d))
+pub at_entry : (told : List Told) (n : ℕ) (d : PathEntry) → n < length told → (x : Told) × ((slice_get told n ≡ Some x) × (x.entry ≡ get_or (told_entries told) n d))
 at_entry [] n d low = absurd (omega (arith, low))
 at_entry (x ∷ told) zero d low = (x, (refl, refl))
 at_entry (x ∷ told) (suc n) d low = at_entry told n d (omega (arith, low))
@@ -52,7 +52,7 @@ lines_more objects from (suc n) (y ∷ told) x is =
     ap (λ (xs : List ℕ). this ++ xs) (rest ∙ ap (λ (k : ℕ). lines_from objects (from + 1) (take n told) ++ line_text k x.entry.parent (shown_object (slice_get objects x.position))) count)
     ∙ sym (append_assoc this (lines_from objects (from + 1) (take n told)) (line_text (from + suc n) x.entry.parent (shown_object (slice_get objects x.position))))
 
-count_entries : (told : List Told) → length (entries told) ≡ length told
+count_entries : (told : List Told) → length (told_entries told) ≡ length told
 count_entries [] = refl
 count_entries (x ∷ told) = ap suc (count_entries told)
 

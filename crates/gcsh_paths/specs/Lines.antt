@@ -2,7 +2,7 @@
 use Rattle.std.specs.Prelude.{ℕ, ◌+◌, List, [], ◌∷◌, ◌++◌, codes, slice_get}
 use Rattle.std.specs.Fmt.{decimal}
 use Rattle.gc_commands.specs.declared.reply.ReplyValue.{ReplyValue}
-use Rattle.gc_commands.specs.Text.{value_text}
+use Rattle.gc_commands.specs.Text.{reply_value_text}
 use Rattle.gc_model.specs.Values.{Object}
 use Rattle.gc_script.specs.Shapes.{shown_object}
 use Rattle.gc_store.specs.declared.root_words.RootName.{RootName}
@@ -25,7 +25,7 @@ parent_text (parent.FromEntry number index) = decimal number ++ (codes " ." ++ d
 
 -- the line of an object: its number, where its path comes from, and what it is
 abbrev pub line_text : ℕ → PathParent → ReplyValue → List ℕ
-line_text number from value = decimal number ++ 32 ∷ (parent_text from ++ (codes " = " ++ (value_text value ++ 10 ∷ [])))
+line_text number from value = decimal number ++ 32 ∷ (parent_text from ++ (codes " = " ++ (reply_value_text value ++ 10 ∷ [])))
 
 -- the lines of what is told, of which the first has that number
 abbrev pub lines_from : List (Object ℕ) → ℕ → List Told → List ℕ

@@ -6,7 +6,7 @@ ghost use Rattle.gc_model.specs.Table.{Table};
 ghost use Rattle.gc_model.specs.Values.{at};
 ghost use Rattle.gc_paths.specs.Answers.{OnlyPushed, RefusesPaths};
 ghost use Rattle.gc_paths.specs.Left.{FoundAll};
-ghost use Rattle.gc_paths.specs.Progress.{Basis, Stopped};
+ghost use Rattle.gc_paths.specs.Progress.{Basis, StoppedSearch};
 ghost use Rattle.gc_policy.specs.Accounts.{Account};
 ghost use Rattle.gc_script.specs.Shapes.{shown_object};
 ghost use Rattle.gc_store.specs.OwnedWords.{HoldsThere};
@@ -46,7 +46,7 @@ pub fn path_report<H: GcHeap>(alloc: Global, store: &mut Store<H, u64>) -> Resul
 fn report<H: GcHeap>(alloc: Global, store: &mut Store<H, u64>) -> Result<String, PathFault>
     ensures answers { (t : Table ℕ) (place : Placing) (a : Account) → HoldsThere H.KIND store.old t place a
         → MatchResult result (λ text. IsReportText t place (string_bytes text)) (RefusesPaths true t) }
-    ensures stopped { (b : Basis ℕ) → b.scoped ≡ true → HoldsThere H.KIND store.old b.table b.place b.account → Stopped H.KIND b store.new }
+    ensures stopped { (b : Basis ℕ) → b.scoped ≡ true → HoldsThere H.KIND store.old b.table b.place b.account → StoppedSearch H.KIND b store.new }
     ensures same { IsSameStore store.old store.new }
 {
     let found = find_paths(alloc, store, true)?;

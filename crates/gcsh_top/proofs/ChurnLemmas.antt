@@ -23,7 +23,7 @@ use Rattle.gcsh_top.specs.declared.words.Form.{Form}
 use Rattle.gcsh_top.specs.Churn.{churn_script, link_fields, round_commands, rounds_up_to}
 use Rattle.gcsh_seeds.specs.Seeds.{seed_of}
 use Rattle.gcsh_top.specs.ChurnRuns.{HasRun, RanChurn, RunFrom, StoppedIn, refusals_in, summary_text}
-use Rattle.gcsh_top.specs.Runs.{IsReady, first_table}
+use Rattle.gcsh_top.specs.Runs.{HoldsFirstTable, first_table}
 use Rattle.gcsh_top.proofs.FormRun.{ready_state}
 use Rattle.gcsh_top.proofs.RunLemmas.{runs_on}
 
@@ -33,7 +33,7 @@ refusals_on xs ys = sum_by-append _ xs ys
 
 module _ (layouts : Layouts) (form : Form) where
   -- nothing was run yet
-  pub nothing_run : (store : StoreView ℕ) (churner : Churner) → IsReady layouts form store → churner.runner ≡ new_runner → churner.limiter ≡ fresh_limits (Some form.most) → churner.refused ≡ 0 → HasRun layouts form [] [] store churner
+  pub nothing_run : (store : StoreView ℕ) (churner : Churner) → HoldsFirstTable layouts form store → churner.runner ≡ new_runner → churner.limiter ≡ fresh_limits (Some form.most) → churner.refused ≡ 0 → HasRun layouts form [] [] store churner
   nothing_run store churner ready fresh limits_are none = record {
     after = begin (first_table form) no_account;
     run = (refl, limits_are);

@@ -3,7 +3,7 @@ use Rattle.std.proofs.Common.{◌≡◌, ℕ, ◌+◌, ◌<◌, List, [], ◌++�
 use Rattle.std.proofs.Math.Seq.{take-append_seam}
 use Rattle.std.specs.Io.KnownBytes.{Appends, Keeps}
 use Rattle.std.proofs.KnownBytes.{Appends-kept, Appends-nil, Appends-trans, Consumes-nil, Consumes-trans}
-use Rattle.gcsh_top.specs.Counts.{raised}
+use Rattle.gcsh_top.specs.Counts.{saturated_sum}
 use Rattle.gcsh_top.specs.Ends.{Gave, SourceRun, SourceTold, TookPart}
 
 -- a sink took a front of the bytes, and the rest of them is left
@@ -46,10 +46,10 @@ progress_done a b bytes rest p done = subst (Appends a b) (sym (p.whole ∙ ap (
 abbrev pub told : SourceTold → SourceTold → SourceRun
 told a b = record { before = a; after = b }
 
-raised_none : (a : ℕ) → a ≡ raised a 0
+raised_none : (a : ℕ) → a ≡ saturated_sum a 0
 raised_none a = omega arith
 
-raised_twice : (a b c m n : ℕ) → b ≡ raised a m → c ≡ raised b n → c ≡ raised a (m + n)
+raised_twice : (a b c m n : ℕ) → b ≡ saturated_sum a m → c ≡ saturated_sum b n → c ≡ saturated_sum a (m + n)
 raised_twice a b c m n first second = omega arith
 
 pub gave_none : (a : SourceTold) → Gave (told a a) []
@@ -59,7 +59,7 @@ gave_none a = record { taken = Consumes-nil a.left; counted = raised_none a.give
 pub gave_on : (a b c : SourceTold) (bytes more : List ℕ) → Gave (told a b) bytes → Gave (told b c) more → Gave (told a c) (bytes ++ more)
 gave_on a b c bytes more one two = record {
   taken = Consumes-trans a.left b.left c.left bytes more one.taken two.taken;
-  counted = raised_twice a.given b.given c.given (length bytes) (length more) one.counted two.counted ∙ ap (raised a.given) (sym (length-append bytes more));
+  counted = raised_twice a.given b.given c.given (length bytes) (length more) one.counted two.counted ∙ ap (saturated_sum a.given) (sym (length-append bytes more));
 }
 
 -- nothing more was given

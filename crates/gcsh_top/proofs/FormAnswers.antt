@@ -11,7 +11,7 @@ use Rattle.gcsh_top.specs.declared.words.Collector.{Collector}
 use Rattle.gcsh_top.specs.declared.words.Form.{Form}
 use Rattle.gcsh_top.specs.declared.words.Task.{Task}
 use Rattle.gcsh_top.specs.declared.words.Task.TheVariants.{Script, Churn, Paths, Save, Load, Lists}
-use Rattle.gcsh_top.specs.Answers.{Answers, Completed, RanOn, RanTask, RanWords, Reported, behind, within}
+use Rattle.gcsh_top.specs.Answers.{TopAnswers, Completed, RanOn, RanTask, RanWords, Reported, behind, within}
 use Rattle.gcsh_top.specs.Reports.{RanSilently, ReportedText, reported_text, wanted_memory, silent}
 use Rattle.gcsh_top.specs.LoadReports.{read_whole, not_read}
 use Rattle.gcsh_top.specs.Churn.{max_rounds}
@@ -42,7 +42,7 @@ no_usage Load layouts form source sink store (not_read why unwritten ready) = wh
 no_usage (Lists inserts) layouts form source sink store (same, ends) = no_usage_text _ _ _ sink ends
 
 -- the words of a form never end as words of none
-answers_of : (words : List (List ℕ)) (source : SourceRun) (sink : SinkRun) (old new : Stores) (status : Status) → RanWords words source sink old new status → Answers words source sink old new status
+answers_of : (words : List (List ℕ)) (source : SourceRun) (sink : SinkRun) (old new : Stores) (status : Status) → RanWords words source sink old new status → TopAnswers words source sink old new status
 answers_of words source sink old new Done ran = ran
 answers_of words source sink old new Usage ran = absurd (no_usage ran.form.task (layouts_of ran.form.collector) ran.form source sink (chosen ran.form.collector new) ran.ran)
 answers_of words source sink old new ReadFault ran = ran
@@ -52,7 +52,7 @@ answers_of words source sink old new NoMemory ran = ran
 
 -- the run of a form over the heap of that collector
 pub ran_over : (collector : Collector) (words : List (List ℕ)) (form : Form) (source : SourceRun) (sink : SinkRun) (old new : Stores) (status : Status) → IsForm words form → form.collector ≡ collector
-    → RanTask form.task (layouts_of collector) form source sink (chosen collector new) status → OthersStay collector old new → AreSameStores old new → Answers words source sink old new status
+    → RanTask form.task (layouts_of collector) form source sink (chosen collector new) status → OthersStay collector old new → AreSameStores old new → TopAnswers words source sink old new status
 ran_over collector words form source sink old new status is_form over ran others same = answers_of words source sink old new status (record {
   form = form;
   is_form = is_form;

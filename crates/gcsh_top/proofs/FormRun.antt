@@ -14,12 +14,12 @@ use Rattle.gc_script.proofs.StandLemmas.{begins}
 use Rattle.gc_script.specs.Session.{SessionFrom}
 use Rattle.gcsh_top.specs.declared.words.Form.{Form}
 use Rattle.gc_script.specs.Lines.{lines}
-use Rattle.gcsh_top.specs.Runs.{RanLines, RanForm, RanSome, StoppedLines, StoppedForm, in_lines, behind_lines, IsReady, first_table}
+use Rattle.gcsh_top.specs.Runs.{RanLines, RanForm, RanSome, StoppedLines, StoppedForm, in_lines, behind_lines, HoldsFirstTable, first_table}
 use Rattle.gcsh_top.proofs.GcLemmas.{no_last_gc}
 
 -- a store that was configured holds the empty table with the form's numbers
 pub started : (layouts : Layouts) (config : HeapConfig) (new : StoreView ℕ) (form : Form) → HoldsStart ℕ layouts new → new.first ≡ config.first_pages → new.max_scoped ≡ config.max_scoped → new.max_owned ≡ config.max_owned → new.alloc_counter ≡ None
-    → config.first_pages ≡ form.first → config.max_scoped ≡ usual_roots → config.max_owned ≡ usual_roots → IsReady layouts form new
+    → config.first_pages ≡ form.first → config.max_scoped ≡ usual_roots → config.max_owned ≡ usual_roots → HoldsFirstTable layouts form new
 started layouts config new form holds is_first is_scoped is_owned none firsts scopeds owneds = record {
   holds =
       subst (λ (n : ℕ). HoldsAccount {D = ℕ} layouts new (start form.first usual_roots n) no_account) (is_owned ∙ owneds)
@@ -29,7 +29,7 @@ started layouts config new form holds is_first is_scoped is_owned none firsts sc
 }
 
 -- such a store, with no register set, is in the state at the beginning
-pub ready_state : (layouts : Layouts) (form : Form) (store : StoreView ℕ) (slots : RunnerView) → IsReady layouts form store → slots ≡ new_runner → HoldsState layouts store slots (begin (first_table form) no_account)
+pub ready_state : (layouts : Layouts) (form : Form) (store : StoreView ℕ) (slots : RunnerView) → HoldsFirstTable layouts form store → slots ≡ new_runner → HoldsState layouts store slots (begin (first_table form) no_account)
 ready_state layouts form store slots ready none = begins layouts store slots (first_table form) no_account ready.holds none
 
 -- what was run is the run of the form

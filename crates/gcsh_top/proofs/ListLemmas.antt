@@ -8,9 +8,9 @@ use Rattle.gcsh_lists.specs.Filling.{HoldsWithin}
 use Rattle.gcsh_lists.specs.Reports.{TellsFill}
 use Rattle.gcsh_top.specs.declared.words.Form.{Form}
 use Rattle.gcsh_top.specs.ListReports.{TellsLists}
-use Rattle.gcsh_top.specs.Runs.{IsReady}
+use Rattle.gcsh_top.specs.Runs.{HoldsFirstTable}
 
-pub tells_lists : (layouts : Layouts) (form : Form) (inserts : ℕ) (old store : StoreView ℕ) (text : List ℕ) (limits : Limits) (bytes : List ℕ) → IsReady layouts form old → limits ≡ fresh_limits (Some form.most) → bytes ≡ text
+pub tells_lists : (layouts : Layouts) (form : Form) (inserts : ℕ) (old store : StoreView ℕ) (text : List ℕ) (limits : Limits) (bytes : List ℕ) → HoldsFirstTable layouts form old → limits ≡ fresh_limits (Some form.most) → bytes ≡ text
     → TellsFill layouts limits inserts old text store → TellsLists layouts form inserts store bytes
 tells_lists layouts form inserts old store text limits bytes ready fresh same tells = record {
   old = old;

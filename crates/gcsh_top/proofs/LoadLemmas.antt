@@ -8,9 +8,9 @@ use Rattle.gc_owner.specs.Limiters.{fresh_limits}
 use Rattle.gcsh_images.specs.Loading.{LeavesLoad, TellsLoad}
 use Rattle.gcsh_top.specs.declared.words.Form.{Form}
 use Rattle.gcsh_top.specs.LoadReports.{LeavesInput, TellsInput}
-use Rattle.gcsh_top.specs.Runs.{IsReady}
+use Rattle.gcsh_top.specs.Runs.{HoldsFirstTable}
 
-pub tells_input : (layouts : Layouts) (form : Form) (input : List ℕ) (old store : StoreView ℕ) (text : List ℕ) (limits limits' : Limits) (bytes : List ℕ) → IsReady layouts form old → limits ≡ fresh_limits (Some form.most) → bytes ≡ text
+pub tells_input : (layouts : Layouts) (form : Form) (input : List ℕ) (old store : StoreView ℕ) (text : List ℕ) (limits limits' : Limits) (bytes : List ℕ) → HoldsFirstTable layouts form old → limits ≡ fresh_limits (Some form.most) → bytes ≡ text
     → TellsLoad layouts old.max_scoped input limits limits' text store → TellsInput layouts form input store bytes
 tells_input layouts form input old store text limits limits' bytes ready fresh same tells = (
   limits',
@@ -19,7 +19,7 @@ tells_input layouts form input old store text limits limits' bytes ready fresh s
       (subst (λ (n : ℕ). TellsLoad layouts n input limits limits' text store) ready.holds.holds.settings.max_scoped tells)),
 )
 
-pub leaves_input : (layouts : Layouts) (form : Form) (input : List ℕ) (old store : StoreView ℕ) (limits limits' : Limits) → IsReady layouts form old → limits ≡ fresh_limits (Some form.most)
+pub leaves_input : (layouts : Layouts) (form : Form) (input : List ℕ) (old store : StoreView ℕ) (limits limits' : Limits) → HoldsFirstTable layouts form old → limits ≡ fresh_limits (Some form.most)
     → LeavesLoad layouts old.max_scoped input limits limits' store → LeavesInput layouts form input store
 leaves_input layouts form input old store limits limits' ready fresh leaves = (
   limits',

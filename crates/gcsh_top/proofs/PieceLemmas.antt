@@ -11,7 +11,7 @@ use Rattle.gc_model.specs.Stores.{StoreView}
 use Rattle.gc_script.specs.Lines.{line_feed, lines}
 use Rattle.gc_script.specs.Slots.{RunnerView}
 use Rattle.gc_script.specs.State.{State, HoldsState}
-use Rattle.gc_script.specs.Cutting.{BeginsWhole, has_feed, EndsLine, EndsWhole, GoesOn, IsCut, IsUnfinished, KeptLine, kept_of, longer, no_line}
+use Rattle.gc_script.specs.Cutting.{BeginsWhole, has_feed, EndsLine, EndsWhole, LineGoesOn, IsCut, IsUnfinished, KeptLine, kept_of, longer, no_line}
 use Rattle.gcsh_top.specs.Runs.{BrokeOff, RanLine, RanLines, RanPiece, RanSome, StoppedPiece}
 use Rattle.gc_script.proofs.CutLemmas.{cut_of, ends_on, line_ends, line_unended, longer_kept, plain_both}
 use Rattle.gcsh_top.proofs.RunLemmas.{ran_kept, ran_none, ran_on, ran_one, some_on, stopped_first, unread}
@@ -85,7 +85,7 @@ module _ (layouts : Layouts) (counter : Option ℕ) where
 
   module _ (limits now : Limits) (s : State) (bytes left : List ℕ) (line : KeptLine) (old store : StoreView ℕ) (slots : RunnerView) (a b : Option (List ℕ)) (so_far : Piecewise layouts counter limits now s bytes left line old store slots a b) where
     -- no line ended
-    pub piece_longer : (line' : KeptLine) (n : ℕ) → GoesOn line line' left n → Piecewise layouts counter limits now s bytes (drop n left) line' old store slots a b
+    pub piece_longer : (line' : KeptLine) (n : ℕ) → LineGoesOn line line' left n → Piecewise layouts counter limits now s bytes (drop n left) line' old store slots a b
     piece_longer line' n fed = record {
       whole = so_far.whole;
       tail = so_far.tail ++ left;

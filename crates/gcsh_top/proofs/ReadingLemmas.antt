@@ -21,7 +21,7 @@ use Rattle.gcsh_top.specs.Answers.{Completed, RanOn, Stopped}
 use Rattle.gc_script.specs.Cutting.{has_feed, IsCut, IsUnfinished, KeptLine, no_line}
 use Rattle.gcsh_top.specs.Ends.{Gave, SinkRun, SinkTold, SourceRun, SourceTold}
 use Rattle.gcsh_top.specs.Input.{GaveLines, GavePiece, ReadWhole, Unread, max_input, so_far, to_its_end}
-use Rattle.gcsh_top.specs.Runs.{IsReady, RanForm, RanLines, RanPiece, RanSome, StoppedPiece, first_table}
+use Rattle.gcsh_top.specs.Runs.{HoldsFirstTable, RanForm, RanLines, RanPiece, RanSome, StoppedPiece, first_table}
 use Rattle.gcsh_top.specs.Statuses.{status_of}
 use Rattle.gcsh_top.proofs.EndLemmas.{gave_no_more, gave_none, gave_on, told}
 use Rattle.gcsh_top.proofs.FormRun.{ran_form, ready_state, stopped_form}
@@ -58,7 +58,7 @@ pub record Reading (layouts : Layouts) (form : Form) (source : SourceRun) (sink 
   pub same : IsSameStore old store
 
 module _ (layouts : Layouts) (form : Form) where
-  pub reading_start : (source : SourceTold) (sink : SinkTold) (line : KeptLine) (limits : Limits) (store : StoreView ℕ) (slots : RunnerView) → IsReady layouts form store → slots ≡ new_runner → line ≡ no_line → limits ≡ fresh_limits (Some form.most)
+  pub reading_start : (source : SourceTold) (sink : SinkTold) (line : KeptLine) (limits : Limits) (store : StoreView ℕ) (slots : RunnerView) → HoldsFirstTable layouts form store → slots ≡ new_runner → line ≡ no_line → limits ≡ fresh_limits (Some form.most)
       → Reading layouts form (told source source) (took sink sink) 0 line limits store store slots
   reading_start source sink line limits store slots ready none no_bytes fresh = record {
     bytes = [];

@@ -11,12 +11,12 @@ use Rattle.gcsh_top.specs.declared.stores.Stores.{Stores}
 use Rattle.gcsh_top.specs.declared.words.Form.{Form}
 use Rattle.gcsh_top.specs.declared.words.Task.{Task}
 use Rattle.gcsh_top.specs.declared.words.Task.TheVariants.{Script, Churn, Paths, Save, Load, Lists}
-use Rattle.gcsh_top.specs.Answers.{Answers, IsShort, RanOn, RanTask, RanWords, Reported, behind, within}
+use Rattle.gcsh_top.specs.Answers.{TopAnswers, IsShort, RanOn, RanTask, RanWords, Reported, behind, within}
 use Rattle.gcsh_top.specs.LoadReports.{read_whole, not_read}
 use Rattle.gcsh_top.specs.Chosen.{chosen}
 use Rattle.gcsh_top.specs.ChurnRuns.{Churned, to_its_end, within}
-use Rattle.gcsh_top.specs.Reports.{ReportedText, Wrote, reported_text, wanted_memory, silent}
-use Rattle.gcsh_top.specs.Counts.{raised}
+use Rattle.gcsh_top.specs.Reports.{ReportedText, WroteText, reported_text, wanted_memory, silent}
+use Rattle.gcsh_top.specs.Counts.{saturated_sum}
 use Rattle.gcsh_top.specs.Ends.{Gave, SinkRun, SourceRun, SourceTold}
 use Rattle.gcsh_top.specs.Input.{GaveWhole, UnreadInput, max_input, so_far, to_its_end}
 use Rattle.gcsh_top.specs.Words.{IsForm, layouts_of}
@@ -24,7 +24,7 @@ use Rattle.gcsh_top.proofs.EndLemmas.{gave_none, told}
 
 module _ (words : List (List ℕ)) (source : SourceRun) (sink : SinkRun) (old new : Stores) where
   -- the words are those of no form exactly at the status that says so
-  pub usage_exact : (status : Status) → Answers words source sink old new status → (status ≡ Usage) ↔ ((form : Form) → ¬ IsForm words form)
+  pub usage_exact : (status : Status) → TopAnswers words source sink old new status → (status ≡ Usage) ↔ ((form : Form) → ¬ IsForm words form)
   usage_exact Done ran = (λ is. cc, λ none. absurd (none ran.form ran.is_form))
   usage_exact Usage none = (λ is. none, λ is. refl)
   usage_exact ReadFault ran = (λ is. cc, λ none. absurd (none ran.form ran.is_form))
@@ -54,7 +54,7 @@ given_on layouts form source sink store TooLong ran = (ran.0, ran.1.gave.gave, o
 given_on layouts form source sink store NoMemory ran = given_whole source NoMemory ran.input (λ is. cc) ran.gave
 
 -- how a summary is written where the status says nothing of the input
-wrote_by : (text : List ℕ) (sink : SinkRun) (status : Status) → Wrote text sink status → (status ≡ Done) ⊎ (((status ≡ WriteFault) × Rose sink.before.faults sink.after.faults) ⊎ (status ≡ NoMemory))
+wrote_by : (text : List ℕ) (sink : SinkRun) (status : Status) → WroteText text sink status → (status ≡ Done) ⊎ (((status ≡ WriteFault) × Rose sink.before.faults sink.after.faults) ⊎ (status ≡ NoMemory))
 wrote_by text sink Done wrote = inl refl
 wrote_by text sink Usage wrote = absurd wrote
 wrote_by text sink ReadFault wrote = absurd wrote
@@ -110,7 +110,7 @@ pub given_exact : (words : List (List ℕ)) (source : SourceRun) (sink : SinkRun
 given_exact words source sink old new status ran = given_task ran.form.task (layouts_of ran.form.collector) ran.form source sink (chosen ran.form.collector new) status ran.ran
 
 -- an input that is not too long gave no byte too many
-too_many : (left left' : Option (List ℕ)) (given given' : ℕ) (bytes : List ℕ) → Consumes left left' bytes → given' ≡ raised given (length bytes) → length bytes ≡ max_input + 1 → IsShort left given given' → ⊥
+too_many : (left left' : Option (List ℕ)) (given given' : ℕ) (bytes : List ℕ) → Consumes left left' bytes → given' ≡ saturated_sum given (length bytes) → length bytes ≡ max_input + 1 → IsShort left given given' → ⊥
 too_many None left' given given' bytes taken counted many short = omega (arith, counted, many, short.0, short.1)
 too_many (Some bs) None given given' bytes taken counted many short = taken
 too_many (Some bs) (Some rest) given given' bytes taken counted many short =
@@ -167,7 +167,7 @@ complete_words : (words : List (List ℕ)) (source : SourceRun) (sink : SinkRun)
     → ¬ Rose source.before.faults source.after.faults → ¬ Rose sink.before.faults sink.after.faults → IsShort source.before.left source.before.given source.after.given → (status ≡ Done) ⊎ (status ≡ NoMemory)
 complete_words words source sink old new status ran = complete_task ran.form.task (layouts_of ran.form.collector) ran.form source sink (chosen ran.form.collector new) status ran.ran
 
-pub complete_exact : (words : List (List ℕ)) (source : SourceRun) (sink : SinkRun) (old new : Stores) (status : Status) (form : Form) → Answers words source sink old new status → IsForm words form
+pub complete_exact : (words : List (List ℕ)) (source : SourceRun) (sink : SinkRun) (old new : Stores) (status : Status) (form : Form) → TopAnswers words source sink old new status → IsForm words form
     → ¬ Rose source.before.faults source.after.faults → ¬ Rose sink.before.faults sink.after.faults → IsShort source.before.left source.before.given source.after.given → (status ≡ Done) ⊎ (status ≡ NoMemory)
 complete_exact words source sink old new Usage form none is_form whole_in whole_out short = absurd (none form is_form)
 complete_exact words source sink old new Done form ran is_form whole_in whole_out short = complete_words words source sink old new Done ran whole_in whole_out short

@@ -79,9 +79,9 @@ pub record RanWords (words : List (List ℕ)) (source : SourceRun) (sink : SinkR
   pub same : AreSameStores old new
 
 -- What the top call answers: that the words are of no form, where nothing is touched; else how the run ended.
-abbrev pub Answers : List (List ℕ) → SourceRun → SinkRun → Stores → Stores → Status → Type 0
-Answers words source sink old new Usage = (form : Form) → ¬ IsForm words form
-Answers words source sink old new status = RanWords words source sink old new status
+abbrev pub TopAnswers : List (List ℕ) → SourceRun → SinkRun → Stores → Stores → Status → Type 0
+TopAnswers words source sink old new Usage = (form : Form) → ¬ IsForm words form
+TopAnswers words source sink old new status = RanWords words source sink old new status
 
 -- The input is not too long: where the source tells its bytes, by their number; else by how many it gave, where that
 -- is counted.

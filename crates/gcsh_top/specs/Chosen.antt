@@ -14,7 +14,7 @@ pub record AreNew (stores : Stores) : Type 0 where
   pub null : HoldsStart ℕ Null stores.null
 
 -- no two stores have one id
-pub record AreApart (stores : Stores) : Type 0 where
+pub record HaveDistinctIds (stores : Stores) : Type 0 where
   pub copying_counting : ¬ (stores.copying.number ≡ stores.counting.number)
   pub copying_null : ¬ (stores.copying.number ≡ stores.null.number)
   pub counting_null : ¬ (stores.counting.number ≡ stores.null.number)

@@ -23,7 +23,7 @@ use Rattle.gcsh_top.specs.declared.status.Status.TheVariants.{NoMemory}
 use Rattle.gcsh_top.specs.declared.words.Form.{Form}
 use Rattle.gcsh_top.specs.Churn.{churn_script}
 use Rattle.gcsh_top.specs.Ends.{SinkRun}
-use Rattle.gcsh_top.specs.Reports.{Wrote}
+use Rattle.gcsh_top.specs.Reports.{WroteText}
 use Rattle.gcsh_top.specs.Runs.{first_table}
 
 -- the reply is a refusal
@@ -92,5 +92,5 @@ pub record RanChurn (layouts : Layouts) (form : Form) (rounds : ℕ) (summary : 
 -- How a run of the script of so many rounds on a new store ended: its summary was written, or a command wanted memory, and
 -- nothing was written.
 pub data Churned (layouts : Layouts) (form : Form) (rounds : ℕ) (sink : SinkRun) (store : StoreView ℕ) (status : Status) : Type 0 where
-  to_its_end : (summary : List ℕ) → RanChurn layouts form rounds summary store → Wrote summary sink status → Churned layouts form rounds sink store status
+  to_its_end : (summary : List ℕ) → RanChurn layouts form rounds summary store → WroteText summary sink status → Churned layouts form rounds sink store status
   within : StoppedIn layouts form (churn_script rounds) store → sink.after ≡ sink.before → status ≡ NoMemory → Churned layouts form rounds sink store status

@@ -2,7 +2,7 @@
 -- that a sink holds, where these are told.
 use Rattle.std.specs.Prelude.{◌≡◌, ℕ, ◌<◌, Bool, List, length, take, drop, Option, IfSome}
 use Rattle.std.specs.Io.KnownBytes.{Appends, Consumes}
-use Rattle.gcsh_top.specs.Counts.{raised}
+use Rattle.gcsh_top.specs.Counts.{saturated_sum}
 
 -- What a source tells: the bytes that it has left, where it tells them; how many reads failed, and how many bytes it
 -- gave, each counted up to the greatest u64; and whether its last read gave no byte for a buffer that isn't empty.
@@ -31,14 +31,14 @@ pub record SinkRun : Type 0 where
 
 -- The first n bytes of a buffer are the next of a source, which has them no longer; the rest of the
 -- buffer is as it was.
-pub record Fills (left left' : Option (List ℕ)) (buf buf' : List ℕ) (n : ℕ) : Type 0 where
+pub record FillsBuffer (left left' : Option (List ℕ)) (buf buf' : List ℕ) (n : ℕ) : Type 0 where
   pub taken : Consumes left left' (take n buf')
   pub kept : IfSome left (λ _. drop n buf' ≡ drop n buf)
 
 -- A source gave these bytes: it has them no longer, and its count of bytes rose by their number.
 pub record Gave (source : SourceRun) (bytes : List ℕ) : Type 0 where
   pub taken : Consumes source.before.left source.after.left bytes
-  pub counted : source.after.given ≡ raised source.before.given (length bytes)
+  pub counted : source.after.given ≡ saturated_sum source.before.given (length bytes)
 
 -- a sink took a front of the bytes and not all of them
 abbrev pub TookPart : Option (List ℕ) → Option (List ℕ) → List ℕ → Type 0

@@ -4,7 +4,7 @@ use Rattle.gc_types.specs.declared.kind.Layouts.{Layouts}
 use Rattle.gc_model.specs.Stores.{StoreView}
 use Rattle.gc_model.specs.Table.{Table}
 use Rattle.gc_policy.specs.Accounts.{Account, HoldsAccount}
-use Rattle.gc_image_collect.specs.Answers.{OnlyPushed}
+use Rattle.gc_image_collect.specs.Answers.{DropsImageRoots}
 use Rattle.gcsh_images.specs.Saving.{TellsSave}
 use Rattle.gcsh_top.specs.declared.status.Status.{Status}
 use Rattle.gcsh_top.specs.Ends.{SinkRun}
@@ -16,7 +16,7 @@ TellsImage layouts mid text = (t : Table ℕ) (a : Account) → HoldsAccount lay
 
 -- roots were pushed and are gone again
 abbrev pub LeavesRoots : Layouts → StoreView ℕ → StoreView ℕ → Type 0
-LeavesRoots layouts mid store = (t : Table ℕ) (a : Account) → HoldsAccount layouts mid t a → OnlyPushed layouts t a store
+LeavesRoots layouts mid store = (t : Table ℕ) (a : Account) → HoldsAccount layouts mid t a → DropsImageRoots layouts t a store
 
 -- how the form ends on the store that the script left
 abbrev pub ReportedImage : Layouts → StoreView ℕ → SinkRun → StoreView ℕ → Status → Type 0

@@ -9,12 +9,12 @@ use Rattle.gcsh_top.specs.declared.status.Status.{Status}
 use Rattle.gcsh_top.specs.declared.words.Form.{Form}
 use Rattle.gcsh_top.specs.Ends.{SinkRun}
 use Rattle.gcsh_top.specs.Reports.{ReportedText}
-use Rattle.gcsh_top.specs.Runs.{IsReady}
+use Rattle.gcsh_top.specs.Runs.{HoldsFirstTable}
 
 -- the text says what so many inserts came to in a new store under the form's limit of pages
 pub record TellsLists (layouts : Layouts) (form : Form) (inserts : ℕ) (store : StoreView ℕ) (text : List ℕ) : Type 0 where
   pub old : StoreView ℕ
-  pub ready : IsReady layouts form old
+  pub ready : HoldsFirstTable layouts form old
   pub tells : TellsFill layouts (fresh_limits (Some form.most)) inserts old text store
 
 -- how the form ends; where there is no memory for a text, the store holds some table within the form's limit of pages

@@ -11,7 +11,7 @@ use Rattle.gcsh_top.specs.declared.words.Form.{Form}
 use Rattle.gcsh_top.specs.Ends.{SinkRun, SourceRun}
 use Rattle.gcsh_top.specs.Input.{ReadWhole, UnreadInput}
 use Rattle.gcsh_top.specs.Reports.{ReportedText}
-use Rattle.gcsh_top.specs.Runs.{IsReady}
+use Rattle.gcsh_top.specs.Runs.{HoldsFirstTable}
 
 -- the text says what loading the input under the form's limit of pages came to
 abbrev pub TellsInput : Layouts → Form → List ℕ → StoreView ℕ → List ℕ → Type 0
@@ -30,4 +30,4 @@ ReportedLoad layouts form input sink store status =
 -- written, and the store holds the empty table still.
 pub data RanLoad (layouts : Layouts) (form : Form) (source : SourceRun) (sink : SinkRun) (store : StoreView ℕ) (status : Status) : Type 0 where
   read_whole : (input : List ℕ) → ReadWhole source input → ReportedLoad layouts form input sink store status → RanLoad layouts form source sink store status
-  not_read : UnreadInput source status → sink.after ≡ sink.before → IsReady layouts form store → RanLoad layouts form source sink store status
+  not_read : UnreadInput source status → sink.after ≡ sink.before → HoldsFirstTable layouts form store → RanLoad layouts form source sink store status

@@ -5,7 +5,7 @@ use Rattle.gc_model.specs.Allocation.{Rose}
 use Rattle.gcsh_top.specs.declared.status.Status.{Status}
 use Rattle.gcsh_top.specs.declared.status.Status.TheVariants.{Done, Usage, ReadFault, WriteFault, TooLong, NoMemory}
 use Rattle.gcsh_top.specs.declared.stores.Stores.{Stores}
-use Rattle.gcsh_top.specs.Answers.{Answers}
+use Rattle.gcsh_top.specs.Answers.{TopAnswers}
 use Rattle.gcsh_top.specs.Chosen.{AreNew}
 use Rattle.gcsh_top.specs.Ends.{SinkRun, SinkTold, SourceRun, SourceTold}
 use Rattle.gcsh_top.specs.Statuses.{code_of}
@@ -25,7 +25,7 @@ Shows text sink NoMemory = ⊥
 
 -- The top call answered on new stores, or there was no memory for these, and nothing was read or written.
 pub data RunsOnNew (words : List (List ℕ)) (source : SourceRun) (sink : SinkRun) (status : Status) : Type 0 where
-  on_new : (old new : Stores) → AreNew old → Answers words source sink old new status → RunsOnNew words source sink status
+  on_new : (old new : Stores) → AreNew old → TopAnswers words source sink old new status → RunsOnNew words source sink status
   no_stores : source.after ≡ source.before → sink.after ≡ sink.before → status ≡ NoMemory → RunsOnNew words source sink status
 
 -- What the program answers: a text that the words ask for is shown, and nothing is read; other words go to the top call.
@@ -34,16 +34,16 @@ pub data ProgramAnswers (help version : List ℕ) (words : List (List ℕ)) (sou
   runs : ((text : List ℕ) → ¬ IsTextFor help version words text) → RunsOnNew words source sink status → ProgramAnswers help version words source sink status
 
 -- what standard input and standard output tell at first
-abbrev pub fresh_source : SourceTold
-fresh_source = record { left = None; faults = 0; given = 0; ended = false }
+abbrev pub standard_source : SourceTold
+standard_source = record { left = None; faults = 0; given = 0; ended = false }
 
-abbrev pub fresh_sink : SinkTold
-fresh_sink = record { held = None; faults = 0; flushed = false }
+abbrev pub standard_sink : SinkTold
+standard_sink = record { held = None; faults = 0; flushed = false }
 
 -- a run of the program with these words over standard ends
 abbrev pub RunsOver : List ℕ → List ℕ → List (List ℕ) → Status → Type 0
 RunsOver help version words status = (source : SourceTold) × (sink : SinkTold)
-    × ProgramAnswers help version words (record { before = fresh_source; after = source }) (record { before = fresh_sink; after = sink }) status
+    × ProgramAnswers help version words (record { before = standard_source; after = source }) (record { before = standard_sink; after = sink }) status
 
 -- the program with these words over standard ends ends with that number, which is free to be that for want of memory
 pub record EndsWith (help version : List ℕ) (words : List (List ℕ)) (code : ℕ) : Type 0 where

@@ -16,17 +16,17 @@ abbrev pub TookFront : Option (List ℕ) → Option (List ℕ) → List ℕ → 
 TookFront held held' bytes = (n : ℕ) × (n ≤ length bytes) × Appends held held' (take n bytes)
 
 -- a text was written and flushed, or the sink failed, or there was no memory for the text
-abbrev pub Wrote : List ℕ → SinkRun → Status → Type 0
-Wrote text sink Done = Appends sink.before.held sink.after.held text × IsTrue sink.after.flushed
-Wrote text sink Usage = ⊥
-Wrote text sink ReadFault = ⊥
-Wrote text sink WriteFault = TookFront sink.before.held sink.after.held text × Rose sink.before.faults sink.after.faults
-Wrote text sink TooLong = ⊥
-Wrote text sink NoMemory = sink.after ≡ sink.before
+abbrev pub WroteText : List ℕ → SinkRun → Status → Type 0
+WroteText text sink Done = Appends sink.before.held sink.after.held text × IsTrue sink.after.flushed
+WroteText text sink Usage = ⊥
+WroteText text sink ReadFault = ⊥
+WroteText text sink WriteFault = TookFront sink.before.held sink.after.held text × Rose sink.before.faults sink.after.faults
+WroteText text sink TooLong = ⊥
+WroteText text sink NoMemory = sink.after ≡ sink.before
 
 -- A report was written that tells something, which left a store so; or there was no memory for it, and nothing was written.
 pub data ReportedText (Tells : List ℕ → Type 0) (Left Wanting : Type 0) (sink : SinkRun) (status : Status) : Type 0 where
-  reported_text : (text : List ℕ) → Tells text → Left → Wrote text sink status → ReportedText Tells Left Wanting sink status
+  reported_text : (text : List ℕ) → Tells text → Left → WroteText text sink status → ReportedText Tells Left Wanting sink status
   wanted_memory : Wanting → sink.after ≡ sink.before → status ≡ NoMemory → ReportedText Tells Left Wanting sink status
 
 -- what a sink tells that drops what it takes, and never fails

@@ -112,7 +112,7 @@ first_table form = start form.first usual_roots usual_roots
 
 -- The store of a heap of that kind that begins with the form's pages holds the empty table, and no allocation
 -- collects by its number.
-pub record IsReady (layouts : Layouts) (form : Form) (store : StoreView ℕ) : Type 0 where
+pub record HoldsFirstTable (layouts : Layouts) (form : Form) (store : StoreView ℕ) : Type 0 where
   pub holds : HoldsAccount layouts store (first_table form) no_account
   pub no_counter : store.alloc_counter ≡ None
 

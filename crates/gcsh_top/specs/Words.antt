@@ -52,12 +52,12 @@ ReadsNothing Load = ⊥
 ReadsNothing (Lists inserts) = Unit {0}
 
 -- the words of a form: a collector, the pages that a heap begins with, the most that it may have, and those of its task
-abbrev pub words_of : Form → List (List ℕ)
-words_of form = collector_word form.collector ∷ decimal form.first ∷ decimal form.most ∷ task_words form.task
+abbrev pub form_words : Form → List (List ℕ)
+form_words form = collector_word form.collector ∷ decimal form.first ∷ decimal form.most ∷ task_words form.task
 
 -- the words are those of the form, whose numbers are in range
 pub record IsForm (words : List (List ℕ)) (form : Form) : Type 0 where
   pub ordered : form.first ≤ form.most
   pub within : form.most ≤ max_pages
   pub fits : FitsTask form.task
-  pub spelled : words ≡ words_of form
+  pub spelled : words ≡ form_words form

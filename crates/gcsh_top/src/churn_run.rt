@@ -10,8 +10,8 @@ ghost use Rattle.gc_store.specs.Stores.{IsSameStore};
 ghost use Rattle.gcsh_top.specs.Chosen.{HasSameId};
 ghost use Rattle.gcsh_top.specs.Churn.{churn_script, link_fields, max_rounds, round_commands, rounds_up_to};
 ghost use Rattle.gcsh_top.specs.ChurnRuns.{Churned, HasRun, RanChurn, StoppedIn, refusals_in, summary_text};
-ghost use Rattle.gcsh_top.specs.Reports.{Wrote};
-ghost use Rattle.gcsh_top.specs.Runs.{IsReady};
+ghost use Rattle.gcsh_top.specs.Reports.{WroteText};
+ghost use Rattle.gcsh_top.specs.Runs.{HoldsFirstTable};
 ghost use Rattle.gcsh_top.specs.declared.words.Form.{Form};
 
 use crate::churn::{MADE, READ, Round, SLOTS, declare_link};
@@ -52,7 +52,7 @@ pub(crate) fn run_churn<H: GcHeap, K: Sink>(
     sink: &mut K,
     store: &mut Store<H, u64>,
 ) -> Status
-    requires ready { IsReady H.KIND form store.old }
+    requires ready { HoldsFirstTable H.KIND form store.old }
     requires most { rounds ≤ max_rounds }
     ensures ran { Churned H.KIND form rounds (record { before = K.tells sink.old; after = K.tells sink.new }) store.new result }
     ensures same { HasSameId store.old store.new }
@@ -219,7 +219,7 @@ fn capacity<H: GcHeap>(store: &Store<H, u64>) -> Reply
 
 /// Writes a summary, and flushes.
 fn write_summary<K: Sink>(alloc: Global, summary: &Summary, sink: &mut K) -> Status
-    ensures { Wrote (summary_text summary.now.commands summary.now.refused summary.now.held summary.now.capacity)
+    ensures { WroteText (summary_text summary.now.commands summary.now.refused summary.now.held summary.now.capacity)
         (record { before = K.tells sink.old; after = K.tells sink.new }) result }
 {
     let Ok(text) = text_of(alloc, summary) else {

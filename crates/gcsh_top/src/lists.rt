@@ -4,7 +4,7 @@ ghost use Rattle.std.specs.Prelude.{◌≤◌};
 ghost use Rattle.gcsh_lists.specs.Filling.{max_inserts};
 ghost use Rattle.gcsh_top.specs.Chosen.{HasSameId};
 ghost use Rattle.gcsh_top.specs.ListReports.{ReportedLists};
-ghost use Rattle.gcsh_top.specs.Runs.{IsReady};
+ghost use Rattle.gcsh_top.specs.Runs.{HoldsFirstTable};
 
 use crate::report::write_report;
 use crate::sink::Sink;
@@ -23,7 +23,7 @@ pub(crate) fn run_lists<H: GcHeap, K: Sink>(
     sink: &mut K,
     store: &mut Store<H, u64>,
 ) -> Status
-    requires ready { IsReady H.KIND form store.old }
+    requires ready { HoldsFirstTable H.KIND form store.old }
     requires most { inserts ≤ max_inserts }
     ensures ran { ReportedLists H.KIND form inserts (record { before = K.tells sink.old; after = K.tells sink.new }) store.new result }
     ensures same { HasSameId store.old store.new }

@@ -4,7 +4,7 @@ ghost use Rattle.std.specs.Prelude.{MatchResult};
 ghost use Rattle.gcsh_top.specs.Chosen.{HasSameId};
 ghost use Rattle.gcsh_top.specs.Input.{ReadWhole, UnreadInput};
 ghost use Rattle.gcsh_top.specs.LoadReports.{RanLoad, ReportedLoad};
-ghost use Rattle.gcsh_top.specs.Runs.{IsReady};
+ghost use Rattle.gcsh_top.specs.Runs.{HoldsFirstTable};
 
 use crate::read::{ReadFault, read_piece};
 use crate::report::write_report;
@@ -26,7 +26,7 @@ pub(crate) fn run_load<H: GcHeap, S: Source, K: Sink>(
     sink: &mut K,
     store: &mut Store<H, u64>,
 ) -> Status
-    requires { IsReady H.KIND form store.old }
+    requires { HoldsFirstTable H.KIND form store.old }
     ensures ran { RanLoad H.KIND form (record { before = S.tells source.old; after = S.tells source.new })
         (record { before = K.tells sink.old; after = K.tells sink.new }) store.new result }
     ensures same { HasSameId store.old store.new }
@@ -45,7 +45,7 @@ fn report_load<H: GcHeap, K: Sink>(
     sink: &mut K,
     store: &mut Store<H, u64>,
 ) -> Status
-    requires { IsReady H.KIND form store.old }
+    requires { HoldsFirstTable H.KIND form store.old }
     ensures reported { ReportedLoad H.KIND form input.now (record { before = K.tells sink.old; after = K.tells sink.new }) store.new result }
     ensures same { HasSameId store.old store.new }
 {

@@ -1,8 +1,8 @@
 //! A source and a sink in memory, which tell their bytes and fail at the calls that they are told to.
 
 ghost use Rattle.std.specs.Prelude.{◌≡◌, ◌↔◌, ◌-◌, ◌⊎◌, ◌++◌, Contains, IfOk, IsErr, Some, drop, length, min, take};
-ghost use Rattle.gcsh_top.specs.Counts.{raised};
-ghost use Rattle.gcsh_top.specs.Memory.{IsFull, after_flush, after_read, after_write, fresh_sink, fresh_source};
+ghost use Rattle.gcsh_top.specs.Counts.{saturated_sum};
+ghost use Rattle.gcsh_top.specs.Memory.{IsSinkFull, sink_after_flush, source_after_read, sink_after_write, fresh_sink, fresh_source};
 
 use crate::sink::{Sink, SinkFault};
 use crate::source::{Source, SourceFault};
@@ -54,10 +54,10 @@ impl Source for MemSource {
     ghost tells = { λ s. record { left = Some s.left; faults = s.counts.faults; given = s.counts.given; ended = s.counts.ended } };
 
     fn read(&mut self, buf: &mut [u8]) -> Result<usize, SourceFault>
-        ensures fails { IsErr result ↔ Contains self.old.failing (raised self.old.calls 1) }
+        ensures fails { IsErr result ↔ Contains self.old.failing (saturated_sum self.old.calls 1) }
         ensures most { IfOk result (λ n. n ≡ min (length buf.new) (length self.old.left)) }
         ensures bytes { IfOk result (λ n. buf.new ≡ take n self.old.left ++ drop n buf.old) }
-        ensures state { self.new ≡ after_read self.old buf.new result }
+        ensures state { self.new ≡ source_after_read self.old buf.new result }
     {
         self.calls = self.calls.saturating_add(1);
         if self.failing.contains(&self.calls) {
@@ -135,9 +135,9 @@ impl Sink for MemSink {
     ghost tells = { λ s. record { held = Some s.held; faults = s.counts.faults; flushed = s.counts.flushed } };
 
     fn write(&mut self, bytes: &[u8]) -> Result<usize, SinkFault>
-        ensures fails { IsErr result ↔ (Contains self.old.failing (raised self.old.calls 1) ⊎ IsFull self.old bytes.now) }
+        ensures fails { IsErr result ↔ (Contains self.old.failing (saturated_sum self.old.calls 1) ⊎ IsSinkFull self.old bytes.now) }
         ensures most { IfOk result (λ n. n ≡ min (length bytes.now) (self.old.room - length self.old.held)) }
-        ensures state { self.new ≡ after_write self.old bytes.now result }
+        ensures state { self.new ≡ sink_after_write self.old bytes.now result }
     {
         self.flushed = false;
         self.calls = self.calls.saturating_add(1);
@@ -155,7 +155,7 @@ impl Sink for MemSink {
 
     fn flush(&mut self) -> Result<(), SinkFault>
         ensures fails { IsErr result ↔ Contains self.old.failing 0 }
-        ensures state { self.new ≡ after_flush self.old result }
+        ensures state { self.new ≡ sink_after_flush self.old result }
     {
         if self.failing.contains(&0) {
             self.faults = self.faults.saturating_add(1);

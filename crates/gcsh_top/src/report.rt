@@ -4,8 +4,8 @@ ghost use Rattle.gcsh_top.specs.Answers.{Reported};
 ghost use Rattle.gcsh_top.specs.Chosen.{HasSameId};
 ghost use Rattle.gcsh_top.specs.ImageReports.{ReportedImage};
 ghost use Rattle.gcsh_top.specs.PathReports.{ReportedPaths};
-ghost use Rattle.gcsh_top.specs.Reports.{Wrote};
-ghost use Rattle.gcsh_top.specs.Runs.{IsReady};
+ghost use Rattle.gcsh_top.specs.Reports.{WroteText};
+ghost use Rattle.gcsh_top.specs.Runs.{HoldsFirstTable};
 
 use crate::silence::Silence;
 use crate::sink::Sink;
@@ -30,7 +30,7 @@ pub(crate) fn run_paths<H: GcHeap, S: Source, K: Sink>(
     sink: &mut K,
     store: &mut Store<H, u64>,
 ) -> Status
-    requires { IsReady H.KIND form store.old }
+    requires { HoldsFirstTable H.KIND form store.old }
     ensures ran { Reported H.KIND form (record { before = S.tells source.old; after = S.tells source.new })
         (record { before = K.tells sink.old; after = K.tells sink.new }) store.new result
         (λ mid. ReportedPaths H.KIND mid (record { before = K.tells sink.old; after = K.tells sink.new }) store.new result) }
@@ -67,7 +67,7 @@ pub(crate) fn run_save<H: GcHeap, S: Source, K: Sink>(
     sink: &mut K,
     store: &mut Store<H, u64>,
 ) -> Status
-    requires { IsReady H.KIND form store.old }
+    requires { HoldsFirstTable H.KIND form store.old }
     ensures ran { Reported H.KIND form (record { before = S.tells source.old; after = S.tells source.new })
         (record { before = K.tells sink.old; after = K.tells sink.new }) store.new result
         (λ mid. ReportedImage H.KIND mid (record { before = K.tells sink.old; after = K.tells sink.new }) store.new result) }
@@ -97,7 +97,7 @@ fn report_image<H: GcHeap, K: Sink>(
 
 /// Writes a report, and flushes.
 pub(crate) fn write_report<K: Sink>(sink: &mut K, text: &[u8]) -> Status
-    ensures { Wrote text.now (record { before = K.tells sink.old; after = K.tells sink.new }) result }
+    ensures { WroteText text.now (record { before = K.tells sink.old; after = K.tells sink.new }) result }
 {
     if write_all(sink, text).is_err() {
         return Status::WriteFault;

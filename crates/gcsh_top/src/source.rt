@@ -12,8 +12,8 @@ pub trait Source {
     ghost use Rattle.std.specs.Prelude.{◌≡◌, ℕ, ◌≤◌, IsTrue, IfOk, OnErr, length};
     ghost use Rattle.std.specs.Io.KnownBytes.{IsAtEnd, Keeps};
     ghost use Rattle.gc_model.specs.Allocation.{Rose};
-    ghost use Rattle.gcsh_top.specs.Counts.{met_end, raised};
-    ghost use Rattle.gcsh_top.specs.Ends.{Fills, SourceTold};
+    ghost use Rattle.gcsh_top.specs.Counts.{met_end, saturated_sum};
+    ghost use Rattle.gcsh_top.specs.Ends.{FillsBuffer, SourceTold};
 
     /// What it tells of its bytes and of its reads so far.
     ghost tells: { Self → SourceTold };
@@ -22,10 +22,10 @@ pub trait Source {
     /// empty is the end of the input. A failed read takes nothing.
     fn read(&mut self, buf: &mut [u8]) -> Result<usize, SourceFault>
         ensures within { IfOk result (λ n. n ≤ length buf.new) }
-        ensures bytes { IfOk result (Fills (tells self.old).left (tells self.new).left buf.old buf.new) }
+        ensures bytes { IfOk result (FillsBuffer (tells self.old).left (tells self.new).left buf.old buf.new) }
         ensures ended { (tells self.new).ended ≡ met_end result buf.new }
         ensures end { IsTrue (tells self.new).ended → IsAtEnd (tells self.new).left }
-        ensures given { IfOk result (λ n. (tells self.new).given ≡ raised (tells self.old).given n) }
+        ensures given { IfOk result (λ n. (tells self.new).given ≡ saturated_sum (tells self.old).given n) }
 
         ensures faults { (tells self.old).faults ≤ (tells self.new).faults }
         ensures failed { OnErr result (Rose (tells self.old).faults (tells self.new).faults) }

@@ -4,7 +4,7 @@
 //! two tell counts alone.
 
 ghost use Rattle.std.specs.Prelude.{◌≡◌, ◌≤◌, IfOk, None, length};
-ghost use Rattle.gcsh_top.specs.Counts.{after_flush, after_read, after_write, fresh_input, fresh_output};
+ghost use Rattle.gcsh_top.specs.Counts.{after_flush, input_after_read, after_write, fresh_input, fresh_output};
 
 use crate::sink::{Sink, SinkFault};
 use crate::source::{Source, SourceFault};
@@ -47,7 +47,7 @@ impl<R: Read> Source for StdSource<R> {
 
     fn read(&mut self, buf: &mut [u8]) -> Result<usize, SourceFault>
         ensures within { IfOk result (λ n. n ≤ length buf.new) }
-        ensures state { self.new ≡ after_read self.old buf.new result }
+        ensures state { self.new ≡ input_after_read self.old buf.new result }
     {
         match self.reader.read(buf) {
             Ok(count) => {

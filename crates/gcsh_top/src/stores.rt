@@ -1,7 +1,7 @@
 //! The stores of the program.
 
 ghost use Rattle.std.specs.Prelude.{IfOk};
-ghost use Rattle.gcsh_top.specs.Chosen.{AreApart, AreNew};
+ghost use Rattle.gcsh_top.specs.Chosen.{HaveDistinctIds, AreNew};
 
 use gc_copying::CopyingHeap;
 use gc_drc::DrcHeap;
@@ -21,7 +21,7 @@ impl Stores {
     /// Stores with nothing in them, each with an id of its own.
     pub fn new(alloc: Global) -> Result<Stores, AllocError>
         ensures new { IfOk result AreNew }
-        ensures apart { IfOk result AreApart }
+        ensures apart { IfOk result HaveDistinctIds }
     {
         let mut engine = Engine::new(0);
         let (Some(first), Some(second), Some(third), Some(config)) = (

@@ -4,9 +4,9 @@ ghost use Rattle.std.specs.Prelude.{◌≡◌, ◌+◌, ◌≤◌, ◌⊎◌, �
 ghost use Rattle.gc_store.specs.Stores.{HoldsStart};
 ghost use Rattle.gc_view.specs.Pages.{max_pages};
 ghost use Rattle.gc_model.specs.Allocation.{Rose};
-ghost use Rattle.gcsh_top.specs.Answers.{Answers, IsShort, RanOn, RanTask, RanWords};
+ghost use Rattle.gcsh_top.specs.Answers.{TopAnswers, IsShort, RanOn, RanTask, RanWords};
 ghost use Rattle.gcsh_top.specs.Chosen.{AreNew, HasSameId};
-ghost use Rattle.gcsh_top.specs.Runs.{IsReady};
+ghost use Rattle.gcsh_top.specs.Runs.{HoldsFirstTable};
 ghost use Rattle.gcsh_top.specs.Statuses.{code_of};
 ghost use Rattle.gcsh_top.specs.Ends.{Gave, SinkRun, SourceRun};
 ghost use Rattle.gcsh_top.specs.Input.{max_input};
@@ -50,7 +50,7 @@ pub fn gcsh_top<S: Source, K: Sink>(
     stores: &mut Stores,
 ) -> u8
     requires { AreNew stores.old }
-    ensures answers { (status : Status) × (result ≡ code_of status) × Answers (map string_bytes words.now)
+    ensures answers { (status : Status) × (result ≡ code_of status) × TopAnswers (map string_bytes words.now)
         (record { before = S.tells source.old; after = S.tells source.new }) (record {
           before = K.tells sink.old;
           after = K.tells sink.new;
@@ -70,7 +70,7 @@ pub(crate) fn run_words<S: Source, K: Sink>(
     stores: &mut Stores,
 ) -> Status
     requires { AreNew stores.old }
-    ensures answers { Answers (map string_bytes words.now) (record { before = S.tells source.old; after = S.tells source.new })
+    ensures answers { TopAnswers (map string_bytes words.now) (record { before = S.tells source.old; after = S.tells source.new })
         (record { before = K.tells sink.old; after = K.tells sink.new }) stores.old stores.new result }
     ensures untouched { result ≡ Status.Usage → (source.new ≡ source.old) × (sink.new ≡ sink.old) × (stores.new ≡ stores.old) }
     ensures unread { (form : Form) → IsForm (map string_bytes words.now) form → ReadsNothing form.task → source.new ≡ source.old }
@@ -116,7 +116,7 @@ fn run_on<H: GcHeap, S: Source, K: Sink>(
 fn configure<H: GcHeap>(form: Form, store: &mut Store<H, u64>)
     requires first { form.first ≤ max_pages }
     requires start { HoldsStart ℕ H.KIND store.old }
-    ensures ready { IsReady H.KIND form store.new }
+    ensures ready { HoldsFirstTable H.KIND form store.new }
     ensures same { HasSameId store.old store.new }
 {
     let Some(config) = HeapConfig::with_pages(form.first) else {
@@ -133,7 +133,7 @@ pub(crate) fn run_form<H: GcHeap, S: Source, K: Sink>(
     sink: &mut K,
     store: &mut Store<H, u64>,
 ) -> Status
-    requires { IsReady H.KIND form store.old }
+    requires { HoldsFirstTable H.KIND form store.old }
     ensures ran { RanOn H.KIND form (record { before = S.tells source.old; after = S.tells source.new })
         (record { before = K.tells sink.old; after = K.tells sink.new }) store.new result }
     ensures same { HasSameId store.old store.new }
@@ -179,13 +179,13 @@ pub(crate) fn run_form<H: GcHeap, S: Source, K: Sink>(
 /// words are of a form, no end failed and the input is not too long, it is `Done` or `NoMemory`.
 pub fn statuses_are_exact()
     ensures usage { (words : List (List ℕ)) (source : SourceRun) (sink : SinkRun) (old new : Stores) (status : Status)
-        → Answers words source sink old new status
+        → TopAnswers words source sink old new status
         → (status ≡ Status.Usage) ↔ ((form : Form) → ¬ IsForm words form) }
     ensures given { (words : List (List ℕ)) (source : SourceRun) (sink : SinkRun) (old new : Stores) (status : Status)
         → RanWords words source sink old new status
         → (bytes : List ℕ) × Gave source bytes × (length bytes ≤ max_input + 1) × ((status ≡ Status.TooLong) ↔ (length bytes ≡ max_input + 1)) }
     ensures complete { (words : List (List ℕ)) (source : SourceRun) (sink : SinkRun) (old new : Stores) (status : Status) (form : Form)
-        → Answers words source sink old new status
+        → TopAnswers words source sink old new status
         → IsForm words form → ¬ Rose source.before.faults source.after.faults → ¬ Rose sink.before.faults sink.after.faults
         → IsShort source.before.left source.before.given source.after.given → (status ≡ Status.Done) ⊎ (status ≡ Status.NoMemory) }
 {}

@@ -24,11 +24,11 @@ use Rattle.gc_objects.specs.declared.val.Val.{Val}
 use Rattle.gc_objects.specs.Writes.{SetsField}
 use Rattle.gc_objects.proofs.Pushed.{names_once, named_kind}
 use Rattle.gc_objects.proofs.Pushing.{held_table}
-use Rattle.graph_embedding.specs.Entries.{IsNode, HoldsEntry, KeepsEntries}
+use Rattle.graph_embedding.specs.Entries.{IsGraphNode, HoldsEntry, KeepsEntries}
 use Rattle.graph_embedding.proofs.EntriesKept.{KeptIn, entries_kept, accounts_kept, kept_at, kept_same, keeps_itself, keeps_left, keeps_owned, keeps_written}
 
 -- a node is a struct, and so its handle may be given as that of one
-pub node_kind : (layouts : Layouts) (s : StoreView ℕ) (handle : GcRootIndex) (key : ℤ) → IsNode layouts s handle key → NamesKind ℕ layouts s kinds.StructRef handle
+pub node_kind : (layouts : Layouts) (s : StoreView ℕ) (handle : GcRootIndex) (key : ℤ) → IsGraphNode layouts s handle key → NamesKind ℕ layouts s kinds.StructRef handle
 node_kind layouts s handle key node =
     named_kind layouts s node.table node.holds handle kinds.StructRef (at node.has.position) node.has.named (node.has.object, (node.has.object_is, node.is_struct))
 
@@ -70,7 +70,7 @@ module _ (layouts : Layouts) (old new : StoreView ℕ) (same : IsSameStore old n
       kept_at layouts t after after a new written.holds refl (keeps_written t there.has.position index value other))
 
 -- a node of which an owned root was made is an entry
-pub node_owned : (layouts : Layouts) (old new : StoreView ℕ) (handle made : GcRootIndex) (key : ℤ) → IsNode layouts old handle key
+pub node_owned : (layouts : Layouts) (old new : StoreView ℕ) (handle made : GcRootIndex) (key : ℤ) → IsGraphNode layouts old handle key
     → ((t : Table ℕ) (a : Account) → HoldsAccount layouts old t a → MadeOwned layouts old t a handle made new) → HoldsEntry layouts new made key
 node_owned layouts old new handle made key node owning =
     let t = node.table in

@@ -26,7 +26,7 @@ use Rattle.gc_objects.specs.declared.val.Val.TheVariants as val
 use Rattle.gc_objects.specs.Given.{raw_of}
 use Rattle.gc_objects.specs.Reads.{ReadsAt}
 use Rattle.gc_objects.proofs.Pushed.{names_once}
-use Rattle.graph_embedding.specs.Entries.{key_value, key_in, IsNode, KeepsEntries}
+use Rattle.graph_embedding.specs.Entries.{key_value, key_in, IsGraphNode, KeepsEntries}
 use Rattle.graph_embedding.proofs.EntriesKept.{accounts_kept, kept_at, keeps_read}
 
 same_some : {A : Type 0} (x y : A) → Some x ≡ Some y → x ≡ y
@@ -58,7 +58,7 @@ pub read_kept : (layouts : Layouts) (old new : StoreView ℕ) → IsSameStore ol
 read_kept layouts old new same handle index v reads = accounts_kept layouts old new same (λ t a holds.
     let read = reads t a holds in kept_at layouts t (after_read read.0 t) (after_read read.0 t) a new read.1.1.1.1 refl (keeps_read t read.0))
 
-module _ (layouts : Layouts) (old new : StoreView ℕ) (handle : GcRootIndex) (key : ℤ) (node : IsNode layouts old handle key) where
+module _ (layouts : Layouts) (old new : StoreView ℕ) (handle : GcRootIndex) (key : ℤ) (node : IsGraphNode layouts old handle key) where
   abbrev t : Table ℕ
   t = node.table
 

@@ -21,7 +21,7 @@ use Rattle.gc_policy.specs.Policy.{policy_state}
 use Rattle.gc_values.specs.declared.root.GcRootIndex.{GcRootIndex}
 use Rattle.gc_rooted.specs.declared.rooted.Rooted.{Rooted}
 use Rattle.gc_store.specs.Places.{MayGetPages, RefusesPlace}
-use Rattle.gc_store.specs.Requests.{fields_of}
+use Rattle.gc_store.specs.Requests.{struct_fields_of}
 use Rattle.gc_store.specs.Roots.{NamesReference}
 use Rattle.gc_store.specs.Stores.{IsSameStore}
 use Rattle.gc_store.specs.Kinds.{object_kind}
@@ -30,7 +30,7 @@ use Rattle.gc_objects.specs.declared.val.Val.{Val}
 use Rattle.gc_objects.specs.declared.val.Val.TheVariants as val
 use Rattle.gc_objects.specs.Makes.{Fault, Makes, MakesObject, AsksStruct}
 use Rattle.gc_objects.proofs.Pushing.{held_table}
-use Rattle.graph_embedding.specs.Entries.{key_value, IsNode, KeepsEntries}
+use Rattle.graph_embedding.specs.Entries.{key_value, IsGraphNode, KeepsEntries}
 use Rattle.graph_embedding.proofs.EntriesKept.{KeptIn, accounts_kept, kept_at, kept_same, keeps_itself, keeps_made, keeps_pages, keeps_heap}
 
 module _ (layouts : Layouts) (new : StoreView ℕ) (t : Table ℕ) (a : Account) (limits limits' : Limits) (counter : Option ℕ) where
@@ -89,16 +89,16 @@ module _ (layouts : Layouts) (old new : StoreView ℕ) (t : Table ℕ) (a : Acco
     (first : slice_get vs 0 ≡ Some (val.I64 key)) (fits : FitsSigned w64 key) where
   key_asked : (o : Object ℕ) → AsksStruct old t ty vs o → (values : List Value) × ((o ≡ struct ty.index values) × (slice_get values 0 ≡ Some (key_value key)))
   key_asked o asks = (
-    stored_in (fields_of t.types ty.index) asks.values,
+    stored_in (struct_fields_of t.types ty.index) asks.values,
     (
       asks.object_is,
-      first_stored key (fields_of t.types ty.index) asks.values (length vs) asks.counted asks.go.same_count (slice_get_within vs 0 (val.I64 key) first)
+      first_stored key (struct_fields_of t.types ty.index) asks.values (length vs) asks.counted asks.go.same_count (slice_get_within vs 0 (val.I64 key) first)
           (λ x is. (asks.go.each 0 (val.I64 key) x first is).stands),
     ),
   )
 
   -- a struct that was made of a key and edges is a node
-  pub made_node : (handle : GcRootIndex) → MakesObject (AsksStruct old t ty vs) layouts counter (policy_state t a limits) limits' handle new → IsNode layouts new handle key
+  pub made_node : (handle : GcRootIndex) → MakesObject (AsksStruct old t ty vs) layouts counter (policy_state t a limits) limits' handle new → IsGraphNode layouts new handle key
   made_node handle makes =
       let asked = key_asked makes.object makes.asked in
       let pages = makes.placed.allocates.pages in

@@ -32,7 +32,7 @@ key_in (val.AnyRef handle) = pos 0
 key_in (val.ExnRef handle) = pos 0
 
 -- the handle names a struct with that key, in some table that the store holds
-pub record IsNode (layouts : Layouts) (s : StoreView ℕ) (handle : GcRootIndex) (key : ℤ) : Type 0 where
+pub record IsGraphNode (layouts : Layouts) (s : StoreView ℕ) (handle : GcRootIndex) (key : ℤ) : Type 0 where
   pub table : Table ℕ
   pub holds : HoldsTable layouts s table
   pub key_fits : FitsSigned w64 key
@@ -41,7 +41,7 @@ pub record IsNode (layouts : Layouts) (s : StoreView ℕ) (handle : GcRootIndex)
 
 -- so by an owned root, which no scope that is left takes with it
 pub record HoldsEntry (layouts : Layouts) (s : StoreView ℕ) (handle : GcRootIndex) (key : ℤ) : Type 0 where
-  pub node : IsNode layouts s handle key
+  pub node : IsGraphNode layouts s handle key
   pub id : ℕ
   pub owned : handle.slot ≡ slot.Owned id
 

@@ -6,7 +6,7 @@ ghost use Rattle.gc_types.specs.declared.kind.VMGcKind.{VMGcKind};
 ghost use Rattle.gc_store.specs.Kinds.{NamesKind};
 ghost use Rattle.gc_objects.specs.Kinds.{IsDeclaredAs};
 ghost use Rattle.gc_objects.specs.declared.val.Val.TheVariants as Val;
-ghost use Rattle.graph_embedding.specs.Entries.{key_in, IsNode, HoldsEntry, KeepsEntries};
+ghost use Rattle.graph_embedding.specs.Entries.{key_in, IsGraphNode, HoldsEntry, KeepsEntries};
 
 use crate::fault::{GraphFault, not_made};
 use gc_heap::GcHeap;
@@ -79,7 +79,7 @@ pub(crate) fn make_node<H: GcHeap>(
     key: i64,
     edges: [Val; 2],
 ) -> Result<Rooted<StructRef>, GraphFault>
-    ensures made { IfOk result (λ made. IsNode H.KIND store.new made.index key) }
+    ensures made { IfOk result (λ made. IsGraphNode H.KIND store.new made.index key) }
     ensures keeps { KeepsEntries H.KIND store.old store.new }
 {
     let allocator = node_allocator(store)?;
@@ -96,7 +96,7 @@ fn own_node<H: GcHeap>(
     store: &mut Store<H, u64>,
     node: Rooted<StructRef>,
 ) -> Result<OwnedRooted<StructRef>, GraphFault>
-    ensures added { (key : ℤ) → IsNode H.KIND store.old node.index key → IfOk result (λ entry. HoldsEntry H.KIND store.new entry.index key) }
+    ensures added { (key : ℤ) → IsGraphNode H.KIND store.old node.index key → IfOk result (λ entry. HoldsEntry H.KIND store.new entry.index key) }
     ensures keeps { KeepsEntries H.KIND store.old store.new }
 {
     match node.to_owned_rooted(store) {
@@ -159,7 +159,7 @@ pub(crate) fn key_of<H: GcHeap, R: RootedGcRef<StructRef>>(
     node: &R,
 ) -> Result<i64, GraphFault>
     requires { NamesKind ℕ H.KIND store.old VMGcKind.StructRef (R.index node.now) }
-    ensures found { (key : ℤ) → IsNode H.KIND store.old (R.index node.now) key → result ≡ Ok key }
+    ensures found { (key : ℤ) → IsGraphNode H.KIND store.old (R.index node.now) key → result ≡ Ok key }
     ensures keeps { KeepsEntries H.KIND store.old store.new }
 {
     match StructRef::field(store, node, KEY) {

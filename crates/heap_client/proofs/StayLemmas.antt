@@ -6,8 +6,8 @@ use Rattle.gc_types.specs.declared.kind.Layouts.TheVariants.{Null, Counting, Cop
 use Rattle.gc_view.specs.Heaps.{HeapObject, HeapView}
 use Rattle.gc_view.proofs.Content.{get-put_same}
 use Rattle.gc_heap.specs.Heap.{AddsObject, Allocated, given_back, put_object}
-use Rattle.gc_heap.specs.declared.heap.HeapFault.{HeapFault}
-use Rattle.gc_heap.specs.declared.heap.HeapFault.TheVariants as fault
+use Rattle.gc_heap.specs.declared.fault.HeapFault.{HeapFault}
+use Rattle.gc_heap.specs.declared.fault.HeapFault.TheVariants as fault
 use Rattle.heap_client.specs.Made.{StaysOpen}
 
 -- What is allocated or given back changes neither the memory nor the scopes.

@@ -12,12 +12,12 @@ abbrev pub start_around : HeapView → Around → Start
 start_around h around = start_at h around.roots.roots around.types.declarations around.hosts.entries
 
 -- a collection may begin there
-abbrev pub CanBegin : Layouts → HeapView → Around → Type 0
-CanBegin layouts h around = CanCollect layouts (start_around h around)
+abbrev pub CanCollectAround : Layouts → HeapView → Around → Type 0
+CanCollectAround layouts h around = CanCollect layouts (start_around h around)
 
 -- some collection stands there of which nothing was done
-abbrev pub IsBegun : {H S : Type 0} → (Start → ℕ → Bool → Stage H S → Type 0) → Stage H S → Type 0
-IsBegun {H} {S} under_way at = (s : Start) × ((c : Bool) × under_way s 0 c at)
+abbrev pub IsCollectionBegun : {H S : Type 0} → (Start → ℕ → Bool → Stage H S → Type 0) → Stage H S → Type 0
+IsCollectionBegun {H} {S} under_way at = (s : Start) × ((c : Bool) × under_way s 0 c at)
 
 -- whatever collection stood there of which nothing was done, it left the heap, these roots and these host ids
 abbrev pub Finishes : {H S : Type 0} → Layouts → (Start → ℕ → Bool → Stage H S → Type 0) → Stage H S → HeapView → List Root → (ℕ → Bool) → Type 0

@@ -5,7 +5,7 @@ ghost use Rattle.gc_view.specs.Heaps.{detached_in};
 ghost use Rattle.gc_heap.specs.Collection.{CanCollect, Collected, has_host, stage};
 ghost use Rattle.gc_heap.specs.Run.{start_at};
 ghost use Rattle.heap_client.specs.declared.collections.Around.{Around};
-ghost use Rattle.heap_client.specs.Collecting.{CanBegin, IsBegun, Finishes};
+ghost use Rattle.heap_client.specs.Collecting.{CanCollectAround, IsCollectionBegun, Finishes};
 
 use crate::allocation::make_struct;
 use crate::fault::ClientFault;
@@ -46,7 +46,7 @@ fn begin<H: GcHeap>(heap: &mut H, alloc: Global, types: Types) -> Result<Around,
     requires sound { H.sound heap.old }
     requires detached { H.seen heap.old ≡ detached_in 0 }
     ensures sound { H.sound heap.new }
-    ensures can { IfOk result (λ (around : Around). CanBegin H.KIND (H.seen heap.new) around) }
+    ensures can { IfOk result (λ (around : Around). CanCollectAround H.KIND (H.seen heap.new) around) }
 {
     attach_page(heap, alloc)?;
     Ok(Around {
@@ -63,9 +63,9 @@ fn add<H: GcHeap>(
     ty: VMSharedTypeIndex,
 ) -> Result<(), ClientFault>
     requires sound { H.sound heap.old }
-    requires can { CanBegin H.KIND (H.seen heap.old) around.old }
+    requires can { CanCollectAround H.KIND (H.seen heap.old) around.old }
     ensures sound { H.sound heap.new }
-    ensures can { OnOk result (CanBegin H.KIND (H.seen heap.new) around.new) }
+    ensures can { OnOk result (CanCollectAround H.KIND (H.seen heap.new) around.new) }
 {
     around.roots.reserve(1)?;
     match make_struct(heap, &around.types, ty) {
@@ -104,7 +104,7 @@ fn finish_after_one<H: GcHeap, D: Drop, L: Ledger>(
     requires name { blank.name ≡ L.name }
     requires parts { blank.parts ≡ L.parts }
     requires some { 0 < blank.parts }
-    requires begun { IsBegun H.under_way (stage heap.old state.old roots.old.roots trace.old.types.now.declarations trace.old.host_data_table.now.entries) }
+    requires begun { IsCollectionBegun H.under_way (stage heap.old state.old roots.old.roots trace.old.types.now.declarations trace.old.host_data_table.now.entries) }
     ensures sound { H.sound heap.new }
     ensures collected { Finishes H.KIND H.under_way
         (stage heap.old state.old roots.old.roots trace.old.types.now.declarations trace.old.host_data_table.now.entries)
@@ -148,9 +148,9 @@ fn run_whole<H: GcHeap, D: Drop, L: Ledger>(
 /// something left to do.
 fn collect_dropped<H: GcHeap>(heap: &mut H, around: &mut Around) -> bool
     requires sound { H.sound heap.old }
-    requires can { CanBegin H.KIND (H.seen heap.old) around.old }
+    requires can { CanCollectAround H.KIND (H.seen heap.old) around.old }
     ensures sound { H.sound heap.new }
-    ensures can { CanBegin H.KIND (H.seen heap.new) around.new }
+    ensures can { CanCollectAround H.KIND (H.seen heap.new) around.new }
 {
     let mut state = heap.begin();
     let mut trace = GcStoreTraceState {
@@ -172,9 +172,9 @@ fn collect_begun<H: GcHeap, L: Ledger>(heap: &mut H, around: &mut Around, blank:
     requires parts { blank.parts ≡ L.parts }
     requires some { 0 < blank.parts }
     requires sound { H.sound heap.old }
-    requires can { CanBegin H.KIND (H.seen heap.old) around.old }
+    requires can { CanCollectAround H.KIND (H.seen heap.old) around.old }
     ensures sound { H.sound heap.new }
-    ensures can { CanBegin H.KIND (H.seen heap.new) around.new }
+    ensures can { CanCollectAround H.KIND (H.seen heap.new) around.new }
 {
     let mut state = heap.begin();
     let mut steps = Steps::<L>::new(blank);
@@ -188,9 +188,9 @@ fn collect_begun<H: GcHeap, L: Ledger>(heap: &mut H, around: &mut Around, blank:
 /// Does a collection by `run_counted`.
 fn collect_run<H: GcHeap>(heap: &mut H, around: &mut Around)
     requires sound { H.sound heap.old }
-    requires can { CanBegin H.KIND (H.seen heap.old) around.old }
+    requires can { CanCollectAround H.KIND (H.seen heap.old) around.old }
     ensures sound { H.sound heap.new }
-    ensures can { CanBegin H.KIND (H.seen heap.new) around.new }
+    ensures can { CanCollectAround H.KIND (H.seen heap.new) around.new }
 {
     let mut trace = GcStoreTraceState {
         host_data_table: &mut around.hosts,

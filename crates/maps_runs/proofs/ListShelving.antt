@@ -24,7 +24,7 @@ use Rattle.gc_lists.specs.declared.kit.Kit.{Kit}
 use Rattle.gc_lists.specs.declared.list.HeapList.{HeapList}
 use Rattle.gc_lists.specs.Answers.{AnswersVersion, AreApart, AreNumbers, Conses, Copied, FailsToCopy, LeavesVersion, Releases, Tails, owned_with}
 use Rattle.gc_lists.specs.Constants.{KeepsConstants}
-use Rattle.gc_lists.specs.Frames.{ChangesObjects, ChangesRoots, Leaves}
+use Rattle.gc_lists.specs.Frames.{ChangesObjects, ChangesOwned, Leaves}
 use Rattle.gc_lists.specs.Kits.{IsKit, KitStands, MakesKit, cell_type, declare_kit, is_kit_of, node_type}
 use Rattle.gc_lists.specs.Lists.{IsListOf}
 use Rattle.gc_lists.specs.Versions.{ListOfStands, ListStands, StandsForList, StandsForListOf, VersionNames, is_version_of}
@@ -118,7 +118,7 @@ module _ (layouts : Layouts) (s new : StoreView ℕ) (kit : Kit) (vs : List (Opt
 pub objects_tell : {limit : Option ℕ} (kit : Kit) (t : Table ℕ) (owned : List Owned) (u : Table ℕ) → ChangesObjects limit kit 1 t owned u → KeepsConstants t u × (u.owned ≡ owned)
 objects_tell kit t owned u changes = (objects_keep kit 1 t u owned changes, ap (λ (v : Table ℕ). v.owned) changes.rest)
 
-pub roots_tell : (t : Table ℕ) (owned : List Owned) (u : Table ℕ) → ChangesRoots t owned u → KeepsConstants t u × (u.owned ≡ owned)
+pub roots_tell : (t : Table ℕ) (owned : List Owned) (u : Table ℕ) → ChangesOwned t owned u → KeepsConstants t u × (u.owned ≡ owned)
 roots_tell t owned u changes = (roots_keep t u owned changes, ap (λ (v : Table ℕ). v.owned) changes.rest)
 
 -- a collection was run
@@ -202,11 +202,11 @@ module _ (layouts : Layouts) (s new : StoreView ℕ) (kit : Kit) (v : Option GcR
         by false w kit_own own = subst Owns (sym (wrong (and_false (is_kit_of s kit) (is_version_of s v) kit_own)).0) tt
 
   tailed : (result : Result HeapList ListFault) → Tails layouts kit.cell first_stands.0 shelf.table result new → Made result
-  tailed (Ok made) answers = shelf_answered layouts s new kit (v ∷ vs) shelf same (ChangesRoots shelf.table) (roots_tell shelf.table) (drop 1 first_stands.0) made.root answers
+  tailed (Ok made) answers = shelf_answered layouts s new kit (v ∷ vs) shelf same (ChangesOwned shelf.table) (roots_tell shelf.table) (drop 1 first_stands.0) made.root answers
   tailed (Err fault.WrongStore) answers = absurd answers
-  tailed (Err fault.RootsFull) answers = shelf_left layouts s new kit (v ∷ vs) shelf same (ChangesRoots shelf.table shelf.table.owned) (roots_tell shelf.table shelf.table.owned) answers.1
+  tailed (Err fault.RootsFull) answers = shelf_left layouts s new kit (v ∷ vs) shelf same (ChangesOwned shelf.table shelf.table.owned) (roots_tell shelf.table shelf.table.owned) answers.1
   tailed (Err (fault.HeapOutOfMemory f)) answers = absurd answers
-  tailed (Err fault.Memory) answers = shelf_left layouts s new kit (v ∷ vs) shelf same (ChangesRoots shelf.table shelf.table.owned) (roots_tell shelf.table shelf.table.owned) answers
+  tailed (Err fault.Memory) answers = shelf_left layouts s new kit (v ∷ vs) shelf same (ChangesOwned shelf.table shelf.table.owned) (roots_tell shelf.table shelf.table.owned) answers
 
   pub tail_stays : (result : Result HeapList ListFault) → (is_version_of s v ≡ false → (result ≡ Err fault.WrongStore) × (new ≡ s))
       → (is_version_of s v ≡ true → (t : Table ℕ) (a : Account) (ty : ℕ) (xs : List ℤ) → HoldsAccount layouts s t a → StandsForListOf s t v ty xs → Tails layouts ty xs t result new) → Made result
@@ -229,8 +229,8 @@ module _ (layouts : Layouts) (s new : StoreView ℕ) (kit : Kit) (v : Option GcR
       shelf_kept layouts s new kit (v ∷ vs) shelf same shelf.table account.0 (keeps shelf.table account.0 first_stands.0 account.1 first_list)
       (record { types = λ ty d e. e; cells = λ p ty bits next of e. e; nodes = λ p ty key value height left right of e. e }) [] (sym (append-nil shelf.table.owned))
 
-  left_by : Leaves layouts (ChangesRoots shelf.table shelf.table.owned) new → ListShelf layouts new kit (v ∷ vs)
-  left_by leaves = shelf_left layouts s new kit (v ∷ vs) shelf same (ChangesRoots shelf.table shelf.table.owned) (roots_tell shelf.table shelf.table.owned) leaves
+  left_by : Leaves layouts (ChangesOwned shelf.table shelf.table.owned) new → ListShelf layouts new kit (v ∷ vs)
+  left_by leaves = shelf_left layouts s new kit (v ∷ vs) shelf same (ChangesOwned shelf.table shelf.table.owned) (roots_tell shelf.table shelf.table.owned) leaves
 
   failed : (why : ListFault) → FailsToCopy layouts first_stands.0 shelf.table why new → ListShelf layouts new kit (v ∷ vs)
   failed fault.WrongStore fails = absurd fails

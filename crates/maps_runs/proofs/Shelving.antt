@@ -30,7 +30,7 @@ use Rattle.gc_lists.specs.declared.fault.ListFault.TheVariants as fault
 use Rattle.gc_lists.specs.declared.kit.Kit.{Kit}
 use Rattle.gc_lists.specs.Answers.{AnswersVersion, AreApart, LeavesVersion, Releases, owned_with}
 use Rattle.gc_lists.specs.Constants.{KeepsConstants}
-use Rattle.gc_lists.specs.Frames.{ChangesObjects, ChangesRoots, Leaves, most_objects}
+use Rattle.gc_lists.specs.Frames.{ChangesObjects, ChangesOwned, Leaves, most_objects}
 use Rattle.gc_lists.specs.Kits.{IsKit, KitStands, MakesKit, cell_type, declare_kit, is_kit_of, node_type}
 use Rattle.gc_lists.specs.Versions.{VersionNames, is_version_of}
 use Rattle.gc_lists.proofs.Sparing.{new_apart, others_left}
@@ -151,7 +151,7 @@ module _ (layouts : Layouts) (s new : StoreView ℕ) (kit : Kit) (vs : List (Opt
   shelf_refused leaves = shelf_kept leaves.after leaves.account leaves.holds (objects_keep kit most_objects shelf.table leaves.after shelf.table.owned leaves.changed) []
       (owned_none leaves.after (ap (λ (v : Table ℕ). v.owned) leaves.changed.rest))
 
-  pub shelf_read : Leaves layouts (ChangesRoots shelf.table shelf.table.owned) new → Shelf layouts new kit vs
+  pub shelf_read : Leaves layouts (ChangesOwned shelf.table shelf.table.owned) new → Shelf layouts new kit vs
   shelf_read leaves = shelf_kept leaves.after leaves.account leaves.holds (roots_keep shelf.table leaves.after shelf.table.owned leaves.changed) []
       (owned_none leaves.after (ap (λ (v : Table ℕ). v.owned) leaves.changed.rest))
 

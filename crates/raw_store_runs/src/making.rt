@@ -3,7 +3,7 @@
 ghost use Rattle.std.specs.Prelude.{◌≡◌, IfOk};
 ghost use Rattle.gc_types.specs.declared.kind.VMGcKind.TheVariants.{StructRef};
 ghost use Rattle.gc_view.specs.Heaps.{detached_in};
-ghost use Rattle.gc_heap.specs.Heap.{CanGiveBack, IsArray, IsStructOrExn};
+ghost use Rattle.gc_heap.specs.Heap.{CanGiveBack, IsArrayKind, IsStructOrExn};
 ghost use Rattle.raw_store_runs.specs.Names.{HasNames};
 
 use crate::fault::RunFault;
@@ -61,7 +61,7 @@ pub(crate) fn make_array<H: GcHeap>(
     store: &mut GcStore<H, u32>,
     named: &Named,
 ) -> Result<VMArrayRef, RunFault>
-    ensures { IfOk result (λ r. CanGiveBack store.new.heap r IsArray) }
+    ensures { IfOk result (λ r. CanGiveBack store.new.heap r IsArrayKind) }
 {
     let Some(layout) = named.types.array_layout(H::KIND, named.bytes) else {
         return Err(RunFault::NoType);

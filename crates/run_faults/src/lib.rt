@@ -1,5 +1,7 @@
 //! Why a program that runs cases over typed handles stops: what a case takes for granted isn't so, or a call answers a
 //! fault that no case is about.
+//!
+//! It promises no more than its texts.
 #![tactic(auto)]
 
 use gc_objects::{AccessFault, AllocFault};

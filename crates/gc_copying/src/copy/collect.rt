@@ -4,9 +4,9 @@ ghost use Rattle.std.specs.Prelude.{ℕ, ◌≡◌, ◌+◌, ◌<◌, ◌≤◌,
 ghost use Rattle.gc_heap.specs.Collection.{IsPartOf};
 ghost use Rattle.gc_copying.specs.Spaces.{half_first};
 ghost use Rattle.gc_copying.specs.CopyStart.{From};
-ghost use Rattle.gc_copying.specs.CopySteps.{words_of, CanWork};
-ghost use Rattle.gc_copying.specs.CopyEnd.{CanBegin, IsBegun, AtWork};
-ghost use Rattle.gc_copying.specs.CopyPhases.{Progress, UnderWay, one_more, Stepped, Scanned, left_of, side_after};
+ghost use Rattle.gc_copying.specs.CopySteps.{words_of_roots, CanWork};
+ghost use Rattle.gc_copying.specs.CopyEnd.{CanBeginCopy, IsBegun, AtWork};
+ghost use Rattle.gc_copying.specs.CopyPhases.{CopyProgress, UnderWay, one_more, CopyingStepped, Scanned, copying_left, side_after};
 ghost use Rattle.gc_roots.specs.Roots.{Root};
 
 use crate::space::Space;
@@ -47,8 +47,8 @@ impl Space {
 
     /// The first increment: the halves change sides, and the roots are moved. Says where the first copy is.
     fn begin_copying<G: Ledger>(&mut self, roots: &mut GcRootsList, steps: &mut Steps<G>) -> u32
-        requires { CanBegin self.old roots.old.roots }
-        ensures begun { (s : From) (counted : ℕ) → IsBegun s self.old → s.roots ≡ words_of roots.old.roots → steps.new ≡ steps.old + counted
+        requires { CanBeginCopy self.old roots.old.roots }
+        ensures begun { (s : From) (counted : ℕ) → IsBegun s self.old → s.roots ≡ words_of_roots roots.old.roots → steps.new ≡ steps.old + counted
             → AtWork s roots.old.roots roots.new.roots self.new result 0 counted }
         ensures side { self.new.upper ≡ not self.old.upper }
         ensures rises { steps.old ≤ steps.new }
@@ -72,7 +72,7 @@ impl Space {
         ensures scanned { (s : From) (rs roots : List Root) (k counted more : ℕ) → s.types ≡ types.now.declarations → AtWork s rs roots self.old scan k counted
             → steps.new ≡ steps.old + more
             → Scanned s rs roots self.new k (counted + more) externals result }
-        ensures less { left_of result < left_of (Phase.Worklist scan externals) }
+        ensures less { copying_left result < copying_left (Phase.Worklist scan externals) }
         ensures side { self.new.upper ≡ self.old.upper }
         ensures rises { steps.old ≤ steps.new }
     {
@@ -91,11 +91,11 @@ impl Space {
         types: &Types,
         steps: &mut Steps<G>,
     ) -> GcProgress
-        requires { (c : Progress D) × UnderWay D c self.old phase.old roots.old.roots types.now.declarations hosts.old.entries }
-        ensures stepped { (c : Progress D) (counted : ℕ) → UnderWay D c self.old phase.old roots.old.roots types.now.declarations hosts.old.entries
+        requires { (c : CopyProgress D) × UnderWay D c self.old phase.old roots.old.roots types.now.declarations hosts.old.entries }
+        ensures stepped { (c : CopyProgress D) (counted : ℕ) → UnderWay D c self.old phase.old roots.old.roots types.now.declarations hosts.old.entries
             → steps.new ≡ steps.old + counted
-            → Stepped D (one_more c counted) result self.new phase.new roots.new.roots types.now.declarations hosts.new.entries }
-        ensures less { result ≡ GcProgress.Continue → left_of phase.new < left_of phase.old }
+            → CopyingStepped D (one_more c counted) result self.new phase.new roots.new.roots types.now.declarations hosts.new.entries }
+        ensures less { result ≡ GcProgress.Continue → copying_left phase.new < copying_left phase.old }
         ensures side { self.new.upper ≡ side_after phase.old self.old.upper }
         ensures rises { steps.old ≤ steps.new }
         ensures spare { roots.new.spare ≡ roots.old.spare }

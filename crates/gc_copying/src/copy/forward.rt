@@ -2,9 +2,9 @@
 
 ghost use Rattle.std.specs.Prelude.{ℕ, ◌≡◌, ◌+◌, ◌<◌, ◌≤◌};
 ghost use Rattle.gc_memory.specs.Words.{word};
-ghost use Rattle.gc_copying.specs.CopyWords.{size_at};
+ghost use Rattle.gc_copying.specs.Layout.{copying_size_at};
 ghost use Rattle.gc_copying.specs.CopyStart.{From};
-ghost use Rattle.gc_copying.specs.CopySteps.{CanCopy, Copies, CanForward, Forwards, Midway, Known, SameSides};
+ghost use Rattle.gc_copying.specs.CopySteps.{CanCopyTo, CopiesObject, CanForward, Forwards, Midway, Known, SameSides};
 
 use crate::space::{COPIED, Space};
 use gc_memory::offsets::{COPYING_FORWARDING, COPYING_SIZE};
@@ -15,12 +15,12 @@ impl Space {
     /// Copies the object at a place, which had not been copied, behind the last object, and says where it
     /// is now. Its time is linear in the bytes of the object.
     fn copy(&mut self, place: u32, kind_word: u32) -> u32
-        requires copy { CanCopy self.old.memory place self.old.bump }
+        requires copy { CanCopyTo self.old.memory place self.old.bump }
         requires kind { kind_word ≡ word self.old.memory place }
         requires count { self.old.objects < u32.MAX }
         ensures to { result ≡ self.old.bump }
-        ensures bytes { Copies self.old.memory self.new.memory place self.old.bump (size_at self.old.memory place) }
-        ensures bump { self.new.bump ≡ self.old.bump + size_at self.old.memory place }
+        ensures bytes { CopiesObject self.old.memory self.new.memory place self.old.bump (copying_size_at self.old.memory place) }
+        ensures bump { self.new.bump ≡ self.old.bump + copying_size_at self.old.memory place }
         ensures count { self.new.objects ≡ self.old.objects + 1 }
         ensures sides { SameSides self.old self.new }
     {

@@ -3,7 +3,7 @@
 ghost use Rattle.std.specs.Prelude.{ℕ, ◌≡◌, ◌+◌, ◌<◌, ◌≤◌, length};
 ghost use Rattle.gc_heap.specs.Collection.{present_words};
 ghost use Rattle.gc_copying.specs.CopyStart.{From};
-ghost use Rattle.gc_copying.specs.CopySteps.{CanForward, Forwards, Midway, Known, SameSides, CanForwardRoots, ForwardsRoots, words_of};
+ghost use Rattle.gc_copying.specs.CopySteps.{CanForward, Forwards, Midway, Known, SameSides, CanForwardRoots, ForwardsRoots, words_of_roots};
 
 use crate::space::Space;
 use gc_refs::VMGcRef;
@@ -32,7 +32,7 @@ impl Space {
     /// Moves the words of all roots.
     pub(crate) fn forward_roots<G: Ledger>(&mut self, roots: &mut GcRootsList, steps: &mut Steps<G>)
         requires { CanForwardRoots self.old roots.old.roots }
-        ensures moved { (s : From) (t : ℕ) → s.roots ≡ words_of roots.old.roots → Midway s t self.old
+        ensures moved { (s : From) (t : ℕ) → s.roots ≡ words_of_roots roots.old.roots → Midway s t self.old
             → ForwardsRoots s t self.old self.new roots.old.roots roots.new.roots }
         ensures sides { SameSides self.old self.new }
         ensures ticks { steps.new + self.old.objects ≡ steps.old + self.new.objects + length (present_words roots.old.roots) }

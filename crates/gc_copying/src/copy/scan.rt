@@ -3,11 +3,11 @@
 ghost use Rattle.std.specs.Prelude.{ℕ, ◌≡◌, ◌+◌, ◌<◌, ◌≤◌, List, length, ◌∷◌, IfSome, IfNone};
 ghost use Rattle.gc_refs.specs.Trace.{form_unit};
 ghost use Rattle.gc_heap.specs.References.{word_offsets};
-ghost use Rattle.gc_copying.specs.CopyWords.{bitmap_places, element_places, info_places, offsets_at};
+ghost use Rattle.gc_copying.specs.CopyWords.{bitmap_places, element_places, info_places, copying_offsets_at};
 ghost use Rattle.gc_memory.specs.Words.{word};
 ghost use Rattle.gc_types.specs.Layouts.{trace_at};
 ghost use Rattle.gc_copying.specs.CopyStart.{From};
-ghost use Rattle.gc_copying.specs.CopySteps.{SameSides, Scanning, CanScan, CanScanAt, Scans, ScansAll, CanWork, WorkAt, Works, WorksOn};
+ghost use Rattle.gc_copying.specs.CopySteps.{SameSides, Scanning, CanScanCopy, CanScanAt, Scans, ScansAll, CanWork, WorkAt, Works, WorksOn};
 ghost use Rattle.gc_heap.specs.Collection.{objects_per_increment};
 
 use crate::space::{ARRAY_LENGTH, FIRST_ELEMENT, FIRST_FIELD, OBJECTS_PER_INCREMENT, Space};
@@ -36,7 +36,7 @@ impl Space {
 
     /// Moves the references that a bitmap names: bit s the word at 12 + 4 * s.
     fn scan_bitmap<G: Ledger>(&mut self, copy: u32, bits: u32, steps: &mut Steps<G>)
-        requires left { CanScan self.old copy (bitmap_places bits) }
+        requires left { CanScanCopy self.old copy (bitmap_places bits) }
         requires bits { bits < form_unit }
         ensures scanned { (s : From) (p u : ℕ) → Scanning s p copy u (bitmap_places bits) self.old → ScansAll s p copy self.old self.new }
         ensures sides { SameSides self.old self.new }
@@ -56,7 +56,7 @@ impl Space {
 
     /// Moves the elements of an array of so many references.
     fn scan_elements<G: Ledger>(&mut self, copy: u32, count: u32, steps: &mut Steps<G>)
-        requires { CanScan self.old copy (word_offsets 16 count) }
+        requires { CanScanCopy self.old copy (word_offsets 16 count) }
         ensures scanned { (s : From) (p u : ℕ) → Scanning s p copy u (word_offsets 16 count) self.old → ScansAll s p copy self.old self.new }
         ensures sides { SameSides self.old self.new }
         ensures ticks { steps.new + self.old.objects ≡ steps.old + self.new.objects + length (word_offsets 16 count) }
@@ -69,7 +69,7 @@ impl Space {
 
     /// Moves the references at these offsets.
     fn scan_offsets<G: Ledger>(&mut self, copy: u32, offsets: &[u32], steps: &mut Steps<G>)
-        requires { CanScan self.old copy offsets.now }
+        requires { CanScanCopy self.old copy offsets.now }
         ensures scanned { (s : From) (p u : ℕ) → Scanning s p copy u offsets.now self.old → ScansAll s p copy self.old self.new }
         ensures sides { SameSides self.old self.new }
         ensures ticks { steps.new + self.old.objects ≡ steps.old + self.new.objects + length offsets.now }
@@ -82,7 +82,7 @@ impl Space {
 
     /// Moves the elements of an array, where they are references.
     fn scan_array<G: Ledger>(&mut self, copy: u32, elements: bool, steps: &mut Steps<G>)
-        requires { CanScan self.old copy (element_places elements (word self.old.memory (copy + 12))) }
+        requires { CanScanCopy self.old copy (element_places elements (word self.old.memory (copy + 12))) }
         ensures scanned { (s : From) (p u : ℕ) → Scanning s p copy u (element_places elements (word self.old.memory (copy + 12))) self.old
             → ScansAll s p copy self.old self.new }
         ensures sides { SameSides self.old self.new }
@@ -103,7 +103,7 @@ impl Space {
         types: &Types,
         steps: &mut Steps<G>,
     )
-        requires { CanScan self.old copy (info_places (word self.old.memory (copy + 12)) (trace_at Layouts.Copying types.now.declarations ty)) }
+        requires { CanScanCopy self.old copy (info_places (word self.old.memory (copy + 12)) (trace_at Layouts.Copying types.now.declarations ty)) }
         ensures scanned { (s : From) (p u : ℕ) → Scanning s p copy u
             (info_places (word self.old.memory (copy + 12)) (trace_at Layouts.Copying types.now.declarations ty)) self.old
             → ScansAll s p copy self.old self.new }
@@ -123,11 +123,11 @@ impl Space {
 
     /// Moves the references of a copy, in the order of their offsets.
     fn scan_references<G: Ledger>(&mut self, copy: u32, types: &Types, steps: &mut Steps<G>)
-        requires { CanScan self.old copy (offsets_at types.now.declarations self.old.memory copy) }
-        ensures scanned { (s : From) (p u : ℕ) → Scanning s p copy u (offsets_at types.now.declarations self.old.memory copy) self.old
+        requires { CanScanCopy self.old copy (copying_offsets_at types.now.declarations self.old.memory copy) }
+        ensures scanned { (s : From) (p u : ℕ) → Scanning s p copy u (copying_offsets_at types.now.declarations self.old.memory copy) self.old
             → ScansAll s p copy self.old self.new }
         ensures sides { SameSides self.old self.new }
-        ensures ticks { steps.new + self.old.objects ≡ steps.old + self.new.objects + length (offsets_at types.now.declarations self.old.memory copy) }
+        ensures ticks { steps.new + self.old.objects ≡ steps.old + self.new.objects + length (copying_offsets_at types.now.declarations self.old.memory copy) }
         ensures rises { steps.old ≤ steps.new }
     {
         let header = self.memory.read_header(copy as usize);
@@ -145,10 +145,10 @@ impl Space {
         requires work { CanWork types.now.declarations self.old copy }
         requires less { copy < self.old.bump }
         ensures scanned { (s : From) (n fields : ℕ) → s.types ≡ types.now.declarations → WorkAt s self.old copy n fields
-            → Works s self.old self.new result (n + 1) (fields + length (offsets_at types.now.declarations self.old.memory copy)) }
+            → Works s self.old self.new result (n + 1) (fields + length (copying_offsets_at types.now.declarations self.old.memory copy)) }
         ensures behind { copy < result }
         ensures sides { SameSides self.old self.new }
-        ensures ticks { steps.new + self.old.objects ≡ steps.old + self.new.objects + length (offsets_at types.now.declarations self.old.memory copy) }
+        ensures ticks { steps.new + self.old.objects ≡ steps.old + self.new.objects + length (copying_offsets_at types.now.declarations self.old.memory copy) }
         ensures rises { steps.old ≤ steps.new }
     {
         let size = self.memory.read_u32(copy as usize + COPYING_SIZE as usize);

@@ -2,8 +2,8 @@
 
 ghost use Rattle.std.specs.Prelude.{ℕ, ◌≡◌, ◌+◌, ◌<◌, ◌≤◌, length};
 ghost use Rattle.gc_heap.specs.FreedHosts.{FreesHost};
-ghost use Rattle.gc_copying.specs.CopyWords.{flag, host_word};
-ghost use Rattle.gc_copying.specs.CopySweep.{CanSweepOne, ListsCopy, SameCounts, CanSweep, Sweeps};
+ghost use Rattle.gc_copying.specs.CopyWords.{flag, copying_host_word};
+ghost use Rattle.gc_copying.specs.CopySweep.{CanSweepExternal, ListsCopy, SameCounts, CanSweep, Sweeps};
 ghost use Rattle.gc_copying.specs.CopyStart.{From};
 ghost use Rattle.gc_copying.specs.CopySteps.{Midway};
 
@@ -16,9 +16,9 @@ impl Space {
     /// Puts the copy of an external object in front of the list, or frees its host value where it was not
     /// copied.
     fn sweep_one<D: Drop>(&mut self, place: u32, hosts: &mut ExternRefHostDataTable<D>)
-        requires { CanSweepOne self.old.memory place }
+        requires { CanSweepExternal self.old.memory place }
         ensures listed { flag self.old.memory place ≡ 1 → ListsCopy self.old self.new place × (hosts.new.entries ≡ hosts.old.entries) }
-        ensures freed { flag self.old.memory place ≡ 0 → FreesHost D hosts.old.entries hosts.new.entries (host_word self.old.memory place)
+        ensures freed { flag self.old.memory place ≡ 0 → FreesHost D hosts.old.entries hosts.new.entries (copying_host_word self.old.memory place)
             × ((self.new.memory ≡ self.old.memory) × (self.new.externals ≡ self.old.externals)) }
         ensures counts { SameCounts self.old self.new }
         ensures spare { hosts.old.spare ≤ hosts.new.spare }

@@ -4,7 +4,7 @@ ghost use Rattle.std.specs.Prelude.{ℕ, ◌≡◌, ◌<◌, ◌≤◌, ◌↔�
 ghost use Rattle.std.specs.FinMap as finite;
 ghost use Rattle.std.specs.Ordering.{nat_cmp};
 ghost use Rattle.gc_drc.specs.CollectMemory.{Context};
-ghost use Rattle.gc_drc.specs.CollectDrain.{IsPlaceWord, Lowering, CanDrain, Drain, drain_left};
+ghost use Rattle.gc_drc.specs.CollectDrain.{IsCountingPlace, Lowering, CanDrain, Drain, drain_left};
 
 use crate::collect::visit::Visitor;
 use crate::space::CountedSpace;
@@ -13,7 +13,7 @@ use gc_types::Types;
 
 /// Whether a word is the place of an object: it is not null, and no 31-bit number.
 pub(crate) fn is_place(word: u32) -> bool
-    ensures { IsTrue result ↔ IsPlaceWord word }
+    ensures { IsTrue result ↔ IsCountingPlace word }
 {
     word != 0 && word % 2 == 0
 }

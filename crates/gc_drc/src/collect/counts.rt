@@ -4,7 +4,7 @@ ghost use Rattle.std.specs.Prelude.{ℕ, ◌≡◌, ◌<◌, List};
 ghost use Rattle.gc_memory.specs.Words.{word};
 ghost use Rattle.gc_memory.specs.Lists.{In, occ};
 ghost use Rattle.gc_drc.specs.View.{View};
-ghost use Rattle.gc_drc.specs.CollectOps.{count_of, lowered, uncounted};
+ghost use Rattle.gc_drc.specs.CollectOps.{count_of, uncounted_or_queued, uncounted};
 ghost use Rattle.gc_drc.specs.CollectMemory.{Context, At, CanLowerAt, CanUncountAt};
 
 use crate::space::{CountedSpace, QUEUED};
@@ -26,7 +26,7 @@ impl CountedSpace {
     /// queued.
     pub(crate) fn take_name(&mut self, place: u32)
         requires { CanLowerAt self.old place }
-        ensures { (c : Context) (v : View) → At c v self.old → In place v.places → 0 < v.counted place → At c (lowered v place) self.new }
+        ensures { (c : Context) (v : View) → At c v self.old → In place v.places → 0 < v.counted place → At c (uncounted_or_queued v place) self.new }
     {
         let count = self.count(place);
         if count == 1 {

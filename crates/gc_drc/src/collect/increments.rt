@@ -4,7 +4,7 @@ ghost use Rattle.std.specs.Prelude.{ℕ, ◌≡◌, ◌≤◌, List, []};
 ghost use Rattle.gc_drc.specs.CollectMemory.{Context};
 ghost use Rattle.gc_drc.specs.CollectSweep.{FrameMarks};
 ghost use Rattle.gc_drc.specs.CollectSwept.{FreesUnheld};
-ghost use Rattle.gc_drc.specs.CollectSpan.{IsOf};
+ghost use Rattle.gc_drc.specs.CollectSpan.{IsContextOf};
 ghost use Rattle.gc_drc.specs.CollectUnreached.{Swept, FreesUnreached};
 
 use crate::collect::trace::MarkReached;
@@ -38,8 +38,8 @@ impl CountedSpace {
         types: &Types,
         hosts: &mut ExternRefHostDataTable<D>,
     )
-        requires { (c : Context) × ((places : List ℕ) × (IsOf c roots.now.roots types.now.declarations × Swept c places self.old)) }
-        ensures frees { (c : Context) (places : List ℕ) → IsOf c roots.now.roots types.now.declarations → Swept c places self.old
+        requires { (c : Context) × ((places : List ℕ) × (IsContextOf c roots.now.roots types.now.declarations × Swept c places self.old)) }
+        ensures frees { (c : Context) (places : List ℕ) → IsContextOf c roots.now.roots types.now.declarations → Swept c places self.old
             → FreesUnreached D c places self.new hosts.old.entries hosts.new.entries }
         ensures spare { hosts.old.spare ≤ hosts.new.spare }
     {

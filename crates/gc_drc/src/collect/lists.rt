@@ -3,7 +3,7 @@
 ghost use Rattle.std.specs.Prelude.{ℕ, ◌≡◌, ◌<◌, List, ◌∷◌};
 ghost use Rattle.gc_memory.specs.Lists.{In, occ};
 ghost use Rattle.gc_drc.specs.View.{View};
-ghost use Rattle.gc_drc.specs.CollectOps.{count_of, unqueued, hidden};
+ghost use Rattle.gc_drc.specs.CollectOps.{count_of, unqueued, unshown};
 ghost use Rattle.gc_drc.specs.CollectLists.{onto, front};
 ghost use Rattle.gc_drc.specs.CollectMemory.{Context, At, CanLeave, CanHide, CanRelink, Relinks};
 
@@ -41,7 +41,7 @@ impl CountedSpace {
     pub(crate) fn hide(&mut self, before: u32, place: u32)
         requires { CanHide self.old before place }
         ensures { (c : Context) (v : View) (kept left : List ℕ) → At c v self.old → v.shown ≡ onto kept (place ∷ left) → front kept ≡ before
-            → At c (hidden v place) self.new }
+            → At c (unshown v place) self.new }
     {
         let next = self.next_shown(place);
         self.relink(before, next);

@@ -3,8 +3,8 @@
 ghost use Rattle.std.specs.Prelude.{ℕ, ◌≡◌, ◌<◌, ◌≤◌, Bool};
 ghost use Rattle.gc_heap.specs.Collection.{has_host, IsPartOf};
 ghost use Rattle.gc_drc.specs.CollectMemory.{Context};
-ghost use Rattle.gc_drc.specs.CollectSpan.{IsOf};
-ghost use Rattle.gc_drc.specs.CollectPhases.{StandsAt, StepsOn, left_of};
+ghost use Rattle.gc_drc.specs.CollectSpan.{IsContextOf};
+ghost use Rattle.gc_drc.specs.CollectPhases.{CountingStandsAt, StepsOn, increments_left};
 
 use crate::space::CountedSpace;
 use gc_heap::GcProgress;
@@ -34,12 +34,12 @@ impl CountedSpace {
         hosts: &mut ExternRefHostDataTable<D>,
         types: &Types,
     ) -> GcProgress
-        requires { (c : Context) × ((before : ℕ → Bool) × (IsOf c roots.now.roots types.now.declarations
-            × StandsAt c before phase.old self.old (has_host hosts.old.entries))) }
-        ensures steps { (c : Context) (before : ℕ → Bool) → IsOf c roots.now.roots types.now.declarations
-            → StandsAt c before phase.old self.old (has_host hosts.old.entries)
+        requires { (c : Context) × ((before : ℕ → Bool) × (IsContextOf c roots.now.roots types.now.declarations
+            × CountingStandsAt c before phase.old self.old (has_host hosts.old.entries))) }
+        ensures steps { (c : Context) (before : ℕ → Bool) → IsContextOf c roots.now.roots types.now.declarations
+            → CountingStandsAt c before phase.old self.old (has_host hosts.old.entries)
             → StepsOn c before result phase.old phase.new self.new (has_host hosts.new.entries) }
-        ensures less { result ≡ GcProgress.Continue → left_of phase.new < left_of phase.old }
+        ensures less { result ≡ GcProgress.Continue → increments_left phase.new < increments_left phase.old }
         ensures spare { hosts.old.spare ≤ hosts.new.spare }
         ensures values { IsPartOf hosts.new.entries hosts.old.entries }
     {

@@ -4,7 +4,7 @@ ghost use Rattle.std.specs.Prelude.{ℕ, ◌≡◌, ◌<◌, List, ◌∷◌};
 ghost use Rattle.gc_memory.specs.Lists.{In, occ};
 ghost use Rattle.gc_drc.specs.View.{View};
 ghost use Rattle.gc_drc.specs.CollectOps.{count_of, unqueued, freed};
-ghost use Rattle.gc_drc.specs.CollectMemory.{Context, At, CanRelease, CanFreeQueued, Releases};
+ghost use Rattle.gc_drc.specs.CollectMemory.{Context, At, CanRelease, CanFreeQueued, ReleasesBlock};
 
 use crate::space::CountedSpace;
 use std::num::NonZeroU32;
@@ -13,7 +13,7 @@ impl CountedSpace {
     /// Gives the block of an object back. Its bytes stay as they are.
     fn release(&mut self, place: u32)
         requires { CanRelease self.old place }
-        ensures { Releases self.old self.new place }
+        ensures { ReleasesBlock self.old self.new place }
     {
         let size = self.size(place);
         let block = (size + 15) / 16 * 16;

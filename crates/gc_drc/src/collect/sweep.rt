@@ -4,7 +4,7 @@ ghost use Rattle.std.specs.Prelude.{ℕ, ◌≡◌, ◌+◌, ◌<◌, List, ◌�
 ghost use Rattle.gc_heap.specs.Collection.{stack_words};
 ghost use Rattle.gc_drc.specs.CollectLists.{front};
 ghost use Rattle.gc_drc.specs.CollectMemory.{Context};
-ghost use Rattle.gc_drc.specs.CollectSweep.{FrameMarks, CanMarkFrame, Sweep, CanSweepOne, SweptOne, sweep_left};
+ghost use Rattle.gc_drc.specs.CollectSweep.{FrameMarks, CanMarkFrame, Sweep, CanSweepShown, SweptOne, sweep_left};
 
 use crate::collect::cascade::is_place;
 use crate::space::CountedSpace;
@@ -50,7 +50,7 @@ impl CountedSpace {
     /// Clears the mark of an object on the list of shown words; one that isn't marked is taken off the list
     /// and lowered. Says which object is the last that was kept.
     fn sweep_one(&mut self, before: u32, place: u32) -> u32
-        requires { CanSweepOne self.old before place }
+        requires { CanSweepShown self.old before place }
         ensures swept { (c : Context) (kept left : List ℕ) → Sweep c self.old kept (place ∷ left) → front kept ≡ before → SweptOne c self.new left result }
         ensures less { sweep_left self.new < sweep_left self.old }
     {

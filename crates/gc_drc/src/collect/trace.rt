@@ -3,7 +3,7 @@
 
 ghost use Rattle.std.specs.Prelude.{ℕ, ◌≡◌, ◌+◌, ◌<◌, List, ◌∷◌, [], length, drop};
 ghost use Rattle.gc_drc.specs.CollectMemory.{Context};
-ghost use Rattle.gc_drc.specs.CollectTrace.{Traces, TracesRoots, CanScan, root_words, trace_left};
+ghost use Rattle.gc_drc.specs.CollectTrace.{Traces, TracesRoots, CanScanNext, words_in_roots, trace_left};
 
 use crate::collect::cascade::is_place;
 use crate::collect::visit::Visitor;
@@ -43,7 +43,7 @@ impl Visitor for MarkReached {
 impl CountedSpace {
     /// Marks the objects that the words of all roots name.
     pub(crate) fn mark_roots(&mut self, roots: &GcRootsList, reached: &mut MarkReached)
-        requires { (c : Context) × ((unscanned : List ℕ) × Traces c unscanned self.old reached.old.head reached.old.fresh (root_words roots.now.roots)) }
+        requires { (c : Context) × ((unscanned : List ℕ) × Traces c unscanned self.old reached.old.head reached.old.fresh (words_in_roots roots.now.roots)) }
         ensures { TracesRoots self.old reached.old.head reached.old.fresh roots.now.roots self.new reached.new.head reached.new.fresh [] }
     {
         for index in 0..roots.len() {
@@ -54,7 +54,7 @@ impl CountedSpace {
 
     /// Scans the first object that is still to be scanned.
     fn scan_next(&mut self, types: &Types, reached: &mut MarkReached)
-        requires can { CanScan types.now.declarations self.old reached.old.head reached.old.fresh }
+        requires can { CanScanNext types.now.declarations self.old reached.old.head reached.old.fresh }
         requires some { 0 < reached.old.head }
         ensures scanned { (c : Context) (unscanned : List ℕ) → c.types ≡ types.now.declarations → Traces c unscanned self.old reached.old.head reached.old.fresh []
             → (left : List ℕ) × (Traces c left self.new reached.new.head reached.new.fresh [] × (length left < length unscanned)) }
@@ -67,7 +67,7 @@ impl CountedSpace {
 
     /// Scans marked objects until none is left to be scanned.
     pub(crate) fn scan_all(&mut self, types: &Types, reached: &mut MarkReached)
-        requires { CanScan types.now.declarations self.old reached.old.head reached.old.fresh }
+        requires { CanScanNext types.now.declarations self.old reached.old.head reached.old.fresh }
         ensures scanned { (c : Context) (unscanned : List ℕ) → c.types ≡ types.now.declarations → Traces c unscanned self.old reached.old.head reached.old.fresh []
             → (left : List ℕ) × Traces c left self.new reached.new.head reached.new.fresh [] }
         ensures none { reached.new.head ≡ 0 }

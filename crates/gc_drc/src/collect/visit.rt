@@ -4,7 +4,7 @@ ghost use Rattle.std.specs.Prelude.{ℕ, ◌≡◌, ◌+◌, ◌≤◌, List, �
 ghost use Rattle.gc_types.specs.declared.layout.TraceInfo.{TraceInfo};
 ghost use Rattle.std.specs.Option.{option_copied};
 ghost use Rattle.gc_refs.specs.Header.{IsOfKind};
-ghost use Rattle.gc_drc.specs.Layout.{kind_at};
+ghost use Rattle.gc_drc.specs.Layout.{counting_kind_at};
 ghost use Rattle.gc_memory.specs.Words.{word};
 ghost use Rattle.gc_memory.specs.Lists.{In};
 ghost use Rattle.gc_heap.specs.References.{word_offsets};
@@ -76,8 +76,8 @@ impl CountedSpace {
     /// The kind of an object.
     pub(crate) fn kind(&self, place: u32) -> VMGcKind
         requires room { place + 28 ≤ length self.now.memory }
-        requires kind { IsOfKind (kind_at self.now.memory place) (word self.now.memory place) }
-        ensures { result ≡ kind_at self.now.memory place }
+        requires kind { IsOfKind (counting_kind_at self.now.memory place) (word self.now.memory place) }
+        ensures { result ≡ counting_kind_at self.now.memory place }
     {
         match self.memory.read_header(place as usize).kind() {
             Some(kind) => kind,
@@ -88,7 +88,7 @@ impl CountedSpace {
     /// The trace info of an object; None where it has no references by its kind.
     fn trace_info_of<'t>(&self, types: &'t Types, place: u32) -> Option<&'t TraceInfo>
         requires room { place + 28 ≤ length self.now.memory }
-        requires kind { IsOfKind (kind_at self.now.memory place) (word self.now.memory place) }
+        requires kind { IsOfKind (counting_kind_at self.now.memory place) (word self.now.memory place) }
         ensures { option_copied result ≡ info_at types.now.declarations self.now.memory place }
     {
         if has_references(self.kind(place)) {

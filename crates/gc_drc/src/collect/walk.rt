@@ -4,7 +4,7 @@ ghost use Rattle.std.specs.Prelude.{ℕ, ◌≡◌, ◌+◌, ◌%◌, ◌<◌, �
 ghost use Rattle.std.specs.FinMap as finite;
 ghost use Rattle.std.specs.Ordering.{nat_cmp};
 ghost use Rattle.gc_memory.specs.Lists.{In};
-ghost use Rattle.gc_drc.specs.Layout.{size_at, block_of};
+ghost use Rattle.gc_drc.specs.Layout.{counting_size_at, block_of};
 ghost use Rattle.gc_drc.specs.View.{View};
 ghost use Rattle.gc_drc.specs.CollectOps.{without_one};
 ghost use Rattle.gc_drc.specs.CollectMemory.{Context, At, CanRelease};
@@ -90,7 +90,7 @@ impl CountedSpace {
     /// Where the block of an object ends.
     pub(crate) fn block_end(&self, place: u32) -> u32
         requires { CanRelease self.now place }
-        ensures { result ≡ place + block_of (size_at self.now.memory place) }
+        ensures { result ≡ place + block_of (counting_size_at self.now.memory place) }
     {
         place + (self.size(place) + 15) / 16 * 16
     }

@@ -1,13 +1,13 @@
 use Rattle.std.proofs.Common.{◌≡◌, ◌++◌, length, map}
 use Rattle.std.specs.List.{AllByRecursion}
 use Rattle.gc_commands.specs.Spelling.{FitsValue}
-use Rattle.gc_commands.specs.Words.{value_text}
+use Rattle.gc_commands.specs.Words.{value_type_text}
 use Rattle.gc_commands.proofs.declarations.read_values.Given as goal
 
 abbrev pub invariant-loop-word : goal.invariant-loop-word
 invariant-loop-word l = record {
   fit : AllByRecursion FitsValue l.values.items;
-  read : l.fn.words ≡ map value_text l.values.items ++ l.words;
+  read : l.fn.words ≡ map value_type_text l.values.items ++ l.words;
 }
 
 abbrev pub decreases-loop-word : goal.decreases-loop-word

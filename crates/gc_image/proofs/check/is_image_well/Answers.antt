@@ -6,7 +6,7 @@ use Rattle.gc_commands.specs.declared.command.Command.{Command}
 use Rattle.gc_image.specs.declared.image.GlobalLine.{GlobalLine}
 use Rattle.gc_image.specs.declared.image.ObjectLine.{ObjectLine}
 use Rattle.gc_image.specs.Declaring.{DeclareInTurn}
-use Rattle.gc_image.specs.Well.{AreReached, AreRising, AreWellGlobals, AreWellObjects}
+use Rattle.gc_image.specs.Well.{GlobalsReachAll, AreRising, AreWellGlobals, AreWellObjects}
 use Rattle.gc_image.proofs.WellLemmas.{no_globals, no_objects, no_rising, no_types, ok_by_reach}
 use Rattle.gc_image.proofs.check.is_image_well.Goals as goal
 
@@ -42,5 +42,5 @@ returns c =
     (subst (λ (gs : List GlobalLine). AreWellGlobals (length c.args.image.now.objects) gs) c.globals-globals.ensures
     (subst (λ (os : List ObjectLine). AreWellGlobals (length os) c.globals-globals.result.now) c.objects-objects.ensures (c.if-not-are_globals_well.ensures.0 refl)))
     (subst (λ (gs : List GlobalLine). AreRising gs) c.globals-globals.ensures (c.if-not-are_rising.ensures.0 refl))
-    (subst (λ (gs : List GlobalLine). IfOk c.are_reached.result (λ (b : Bool). IsTrue b ↔ AreReached c.args.image.now.objects gs)) c.globals-globals.ensures
-    (subst (λ (os : List ObjectLine). IfOk c.are_reached.result (λ (b : Bool). IsTrue b ↔ AreReached os c.globals-globals.result.now)) c.objects-objects.ensures c.are_reached.ensures))
+    (subst (λ (gs : List GlobalLine). IfOk c.are_reached.result (λ (b : Bool). IsTrue b ↔ GlobalsReachAll c.args.image.now.objects gs)) c.globals-globals.ensures
+    (subst (λ (os : List ObjectLine). IfOk c.are_reached.result (λ (b : Bool). IsTrue b ↔ GlobalsReachAll os c.globals-globals.result.now)) c.objects-objects.ensures c.are_reached.ensures))

@@ -1,11 +1,11 @@
 use Rattle.std.proofs.Common.{◌≡◌, ◌++◌, length, map}
 use Rattle.std.specs.List.{AllByRecursion}
-use Rattle.gc_image.specs.Text.{FitsValue, value_text}
+use Rattle.gc_image.specs.Text.{FitsImageValue, value_text}
 use Rattle.gc_image.proofs.object_lines.read_values.Given as goal
 
 abbrev pub invariant-loop-word : goal.invariant-loop-word
 invariant-loop-word l = record {
-  fit : AllByRecursion FitsValue l.values.items;
+  fit : AllByRecursion FitsImageValue l.values.items;
   read : l.fn.words ≡ map value_text l.values.items ++ l.words;
 }
 

@@ -4,8 +4,8 @@ use Rattle.gc_paths.proofs.Growing.{err_is}
 use Rattle.gc_image.specs.declared.image.GlobalLine.{GlobalLine}
 use Rattle.gc_image_collect.specs.declared.globals.GlobalRead.{GlobalRead}
 use Rattle.gc_image_collect.specs.GlobalSteps.{AddsLine, GlobalsSaid}
-use Rattle.gc_image_collect.specs.Parts.{parts}
-use Rattle.gc_image_collect.specs.Progress.{AnswersPart, GoesOn}
+use Rattle.gc_image_collect.specs.Parts.{found_handles}
+use Rattle.gc_image_collect.specs.Progress.{AnswersImagePart, ImageGoesOn}
 use Rattle.gc_image_collect.proofs.ObjectKinds.{err_part}
 use Rattle.gc_image_collect.proofs.ReadSlots.{slot_there}
 use Rattle.gc_image_collect.proofs.Taken.{keeps_itself, keeps_twice}
@@ -39,11 +39,11 @@ returns-in_err-add_line g c b count progress all =
     let slot = slot_there b.table.globals i (omega (arith, many, c.loop-index-test.true)) in
     let is = all.each i slot.0 (get_or c.args.reads.now i no_read) slot.1 (read_at c.args.reads.now i no_read c.loop-index-test.true) in
     let here = read_there g.H.GcHeap.KIND c.args.store.now progress.holds.now goes.progress.holds.now b.place progress.holds.there.0 goes.progress.holds.there.0 slot.0 (get_or c.args.reads.now i no_read) is in
-    subst (λ r. AnswersPart g.H.GcHeap.KIND b (λ (lines : Vec GlobalLine Global). GoesOn g.H.GcHeap.KIND b [] count c.args.store.now (parts c.add_line.new.found) (λ then. GlobalsSaid then (length b.table.globals) b.table.globals lines.items)) ⊥ r c.args.store.now)
+    subst (λ r. AnswersImagePart g.H.GcHeap.KIND b (λ (lines : Vec GlobalLine Global). ImageGoesOn g.H.GcHeap.KIND b [] count c.args.store.now (found_handles c.add_line.new.found) (λ then. GlobalsSaid then (length b.table.globals) b.table.globals lines.items)) ⊥ r c.args.store.now)
     (sym (err_is c.from_residual.result c.in_err-add_line.field-0.0 c.from_residual.ensures.1))
     (err_part g.H.GcHeap.KIND b
-    (λ (done : Unit {0}). GoesOn g.H.GcHeap.KIND b goes.told count c.args.store.now (parts c.add_line.new.found) (λ then. AddsLine then c.loop-index.lines.items c.add_line.new.lines.items i slot.0))
-    (λ (lines : Vec GlobalLine Global). GoesOn g.H.GcHeap.KIND b [] count c.args.store.now (parts c.add_line.new.found) (λ then. GlobalsSaid then (length b.table.globals) b.table.globals lines.items))
+    (λ (done : Unit {0}). ImageGoesOn g.H.GcHeap.KIND b goes.told count c.args.store.now (found_handles c.add_line.new.found) (λ then. AddsLine then c.loop-index.lines.items c.add_line.new.lines.items i slot.0))
+    (λ (lines : Vec GlobalLine Global). ImageGoesOn g.H.GcHeap.KIND b [] count c.args.store.now (found_handles c.add_line.new.found) (λ then. GlobalsSaid then (length b.table.globals) b.table.globals lines.items))
     ⊥ c.in_err-add_line.field-0.0 c.args.store.now (c.in_err-add_line.ensures b goes.told count slot.0 goes.progress here (global_leads b i slot.0 slot.1)))
 
 pub loop-index-preserved : goal.loop-index-preserved
@@ -70,4 +70,4 @@ returns g c b count progress all =
     let past = c.loop-index-test.false in
     let below = c.loop-index.auto.index-end in
     let ended : c.loop-index.index ≡ length b.table.globals = omega (arith, many, past, below) in
-    subst (λ (k : ℕ). GoesOn g.H.GcHeap.KIND b [] count c.args.store.now (parts c.loop-index.found) (λ then. GlobalsSaid then k b.table.globals c.loop-index.lines.items)) ended (c.loop-index.invariant.goes b count progress all)
+    subst (λ (k : ℕ). ImageGoesOn g.H.GcHeap.KIND b [] count c.args.store.now (found_handles c.loop-index.found) (λ then. GlobalsSaid then k b.table.globals c.loop-index.lines.items)) ended (c.loop-index.invariant.goes b count progress all)

@@ -9,8 +9,8 @@ use Rattle.gc_values.specs.declared.root.GcRootIndex.{GcRootIndex}
 use Rattle.gc_store.specs.Roots.{NamesReference}
 use Rattle.gc_store.proofs.HandleWords.{named_held}
 use Rattle.gc_image.specs.declared.image.ImageReference.TheVariants as image_reference
-use Rattle.gc_image_collect.specs.Parts.{FoundParts, Numbers}
-use Rattle.gc_image_collect.specs.Steps.{TakesObject}
+use Rattle.gc_image_collect.specs.Parts.{FoundHandles, NumbersObject}
+use Rattle.gc_image_collect.specs.Steps.{MakesImageReference}
 use Rattle.gc_image_collect.proofs.taking.reference_of.Goals as goal
 
 module _ {D : Type 0} (layouts : Layouts) (s : StoreView D) (t : Table D) (place : Placing) (holds : Holds layouts s t place) (handle : GcRootIndex) where
@@ -18,14 +18,14 @@ module _ {D : Type 0} (layouts : Layouts) (s : StoreView D) (t : Table D) (place
   half_is n word is = omega (arith, is)
 
   -- an odd word is no object's
-  odd_taken : (r : Reference) (word : ℕ) (f : FoundParts) → IsWord place r word → word < 2 ^ 32 → word % 2 ≡ 1 → TakesObject place r handle f f (image_reference.Small (word / 2))
+  odd_taken : (r : Reference) (word : ℕ) (f : FoundHandles) → IsWord place r word → word < 2 ^ 32 → word % 2 ≡ 1 → MakesImageReference place r handle f f (image_reference.Small (word / 2))
   odd_taken null word f is fits odd = absurd (omega (arith, is, odd))
   odd_taken (small n) word f is fits odd = (ap image_reference.Small (half_is n word is), omega (arith, is, fits), record { handles = refl; number = λ w. refl })
   odd_taken (at q) word f is fits odd = let even = (place_even layouts t place s.heap holds.objects q word is).0 in absurd (omega (arith, even, odd))
 
   -- any other is an object's
-  even_taken : (r : Reference) (word number : ℕ) (old new : FoundParts) → NamesReference s t handle r → IsWord place r word → number < 2 ^ 64 → (word % 2 ≡ 1 → ⊥) → Numbers old new word handle number
-      → TakesObject place r handle old new (image_reference.Object number)
+  even_taken : (r : Reference) (word number : ℕ) (old new : FoundHandles) → NamesReference s t handle r → IsWord place r word → number < 2 ^ 64 → (word % 2 ≡ 1 → ⊥) → NumbersObject old new word handle number
+      → MakesImageReference place r handle old new (image_reference.Object number)
   even_taken null word number old new named is fits even numbers =
       let held = named_held layouts s t place holds handle null named in
       let zero_is = held.1.0 in

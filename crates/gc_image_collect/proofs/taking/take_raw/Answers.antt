@@ -8,8 +8,8 @@ use Rattle.gc_values.specs.declared.root.RawValue.{RawValue}
 use Rattle.gc_values.specs.declared.root.RawValue.TheVariants as raw
 use Rattle.gc_store.specs.Slots.{HandleStands}
 use Rattle.gc_store.specs.Values.{RawStands}
-use Rattle.gc_image_collect.specs.Parts.{parts}
-use Rattle.gc_image_collect.specs.Progress.{AnswersPart, GoesOn, SaysValue}
+use Rattle.gc_image_collect.specs.Parts.{found_handles}
+use Rattle.gc_image_collect.specs.Progress.{AnswersImagePart, ImageGoesOn, SaysValue}
 use Rattle.gc_image_collect.specs.Steps.{LeadsOn}
 use Rattle.gc_image_collect.proofs.taking.take_raw.Goals as goal
 
@@ -26,5 +26,5 @@ stands_for s t class (Some h) v stands = record { q = stands.root; stands = stan
 pub returns-in-Ref : goal.returns-in-Ref
 returns-in-Ref g c b told count v progress stands leads =
     let one = stands_for c.args.store.now progress.holds.now c.in-Ref.class c.in-Ref.handle v (subst (λ (r : RawValue). RawStands c.args.store.now progress.holds.now r v) c.in-Ref.is stands) in
-    subst (λ (w : Value). AnswersPart g.H.GcHeap.KIND b (λ x. GoesOn g.H.GcHeap.KIND b told count c.args.store.now (parts c.take_reference.new.found) (λ then. SaysValue then w x)) ⊥ c.take_reference.result c.args.store.now) (sym one.is)
+    subst (λ (w : Value). AnswersImagePart g.H.GcHeap.KIND b (λ x. ImageGoesOn g.H.GcHeap.KIND b told count c.args.store.now (found_handles c.take_reference.new.found) (λ then. SaysValue then w x)) ⊥ c.take_reference.result c.args.store.now) (sym one.is)
     (c.take_reference.ensures b told count one.q progress one.stands (subst (LeadsOn b) one.is leads))

@@ -5,7 +5,7 @@ use Rattle.gc_image.specs.Well.{number_named}
 use Rattle.gc_image_write.specs.Graphs.{early_values, named_values}
 use Rattle.gc_image_write.specs.Order.{early_named}
 use Rattle.gc_image_write.specs.Visiting.{Followed}
-use Rattle.gc_image_write.specs.Walking.{parts}
+use Rattle.gc_image_write.specs.Walking.{walk_parts}
 use Rattle.gc_image_write.proofs.TakeLemmas.{numbers_all, numbers_more}
 use Rattle.gc_image_write.proofs.WalkLemmas.{visits_went}
 use Rattle.gc_image_write.proofs.numbering.visit_globals.Goals as goal
@@ -23,9 +23,9 @@ loop-global-preserved c =
     let types = c.args.types.now.declarations in let objects = c.args.objects.now in let globals = c.args.globals.now in
     let start = c.args.walk.now in let old = c.loop-global.walk in let mid = c.visit_value.new.walk in let new = c.follow.new.walk in
     let visits =
-    visits_went (early_named types objects) (parts start) (parts old) (parts mid) c.in_ok-visit_value.field-0 c.if-not-branch.false c.loop-global.invariant.visits c.in_ok-visit_value.ensures.visits in
+    visits_went (early_named types objects) (walk_parts start) (walk_parts old) (walk_parts mid) c.in_ok-visit_value.field-0 c.if-not-branch.false c.loop-global.invariant.visits c.in_ok-visit_value.ensures.visits in
     record {
-      visits = visits_went (early_named types objects) (parts start) (parts mid) (parts new) c.in_ok-follow.field-0 c.if-not-branch-2.false visits c.in_ok-follow.ensures.visits;
+      visits = visits_went (early_named types objects) (walk_parts start) (walk_parts mid) (walk_parts new) c.in_ok-follow.field-0 c.if-not-branch-2.false visits c.in_ok-follow.ensures.visits;
       numbers =
           numbers_more (early_values types objects) (named_values objects) (λ (g : GlobalLine). number_named g.value) globals c.loop-global.global-index c.global-item.result
           start.order.items old.order.items mid.order.items new.order.items

@@ -3,7 +3,7 @@ use Rattle.std.proofs.lemmas.Option.{slice_get_read}
 use Rattle.gc_image.specs.Well.{number_named}
 use Rattle.gc_image_write.specs.Graphs.{early_values, named_values}
 use Rattle.gc_image_write.specs.Order.{early_named}
-use Rattle.gc_image_write.specs.Walking.{parts}
+use Rattle.gc_image_write.specs.Walking.{walk_parts}
 use Rattle.gc_image_write.proofs.TakeLemmas.{gives_all, gives_more}
 use Rattle.gc_image_write.proofs.WalkLemmas.{visits_went}
 use Rattle.gc_image_write.proofs.numbering.visit_values.Goals as goal
@@ -13,7 +13,7 @@ loop-value-preserved c =
     let types = c.args.types.now.declarations in let objects = c.args.objects.now in let values = c.args.values.now in let went = c.if-not-branch.false in
     record {
       visits =
-          visits_went (early_named types objects) (parts c.args.walk.now) (parts c.loop-value.walk) (parts c.visit_value.new.walk) c.in_ok-visit_value.field-0 went
+          visits_went (early_named types objects) (walk_parts c.args.walk.now) (walk_parts c.loop-value.walk) (walk_parts c.visit_value.new.walk) c.in_ok-visit_value.field-0 went
           c.loop-value.invariant.visits c.in_ok-visit_value.ensures.visits;
       gives =
           gives_more (early_values types objects) (named_values objects) number_named values c.loop-value.value-index c.value-item.result c.args.walk.now.order.items c.loop-value.walk.order.items

@@ -1,7 +1,7 @@
 use Rattle.std.proofs.Common.{ℤ, List, [], ◌∷◌, ◌++◌, Option, Result, sym, ap, ◌∙◌, subst}
 use Rattle.gc_values.specs.declared.root.GcRootIndex.{GcRootIndex}
 use Rattle.gc_lists.specs.declared.fault.ListFault.{ListFault}
-use Rattle.gc_lists.specs.Progress.{NamesCell, Steps, StepsTo}
+use Rattle.gc_lists.specs.Progress.{NamesCell, Steps, ReadsCell}
 use Rattle.gc_model.specs.Table.{Table}
 use Rattle.gc_policy.specs.Accounts.{Account, HoldsAccount}
 use Rattle.gc_lists.proofs.CellReads.{back}
@@ -17,7 +17,7 @@ step-requires g c = cell_somewhere g.H.GcHeap.KIND c.args.store.now c.args.first
 pub loop-preserved : goal.loop-preserved
 loop-preserved g c =
     let steps : (u : Table g.row.D.Denot) (b : Account) (ys : List ℤ) → HoldsAccount g.H.GcHeap.KIND c.loop.store u b → (names : NamesCell c.loop.store u c.in-Some.cell ys)
-    → StepsTo g.H.GcHeap.KIND u b names.number names.next c.in-Ok.number c.in-Ok.next c.step.new.store =
+    → ReadsCell g.H.GcHeap.KIND u b names.number names.next c.in-Ok.number c.in-Ok.next c.step.new.store =
     (λ u b ys h names. subst (λ (r : Result (ℤ × Option GcRootIndex) ListFault). Steps g.H.GcHeap.KIND u b names.number names.next r c.step.new.store) c.in-Ok.is (c.step.ensures.steps u b ys h names)) in
     let fits = number_fits g.H.GcHeap.KIND c.args.store.now c.args.first c.loop.numbers.items c.in-Some.cell c.loop.store c.loop.here c.in-Some.is c.loop.invariant c.in-Ok.number c.in-Ok.next c.step.new.store
     steps c.requires in
@@ -28,7 +28,7 @@ loop-preserved g c =
 pub returns-in-Err-push-clause-walks : goal.returns-in-Err-push-clause-walks
 returns-in-Err-push-clause-walks g c = λ t a xs holds stands.
     let steps : (u : Table g.row.D.Denot) (b : Account) (ys : List ℤ) → HoldsAccount g.H.GcHeap.KIND c.loop.store u b → (names : NamesCell c.loop.store u c.in-Some.cell ys)
-    → StepsTo g.H.GcHeap.KIND u b names.number names.next c.in-Ok.number c.in-Ok.next c.step.new.store =
+    → ReadsCell g.H.GcHeap.KIND u b names.number names.next c.in-Ok.number c.in-Ok.next c.step.new.store =
     (λ u b ys h names. subst (λ (r : Result (ℤ × Option GcRootIndex) ListFault). Steps g.H.GcHeap.KIND u b names.number names.next r c.step.new.store) c.in-Ok.is (c.step.ensures.steps u b ys h names)) in
     stops_full g.H.GcHeap.KIND c.args.store.now c.args.first c.loop.numbers.items c.in-Some.cell c.loop.store c.loop.here c.in-Some.is c.loop.invariant c.in-Ok.number c.in-Ok.next c.step.new.store
     steps t a xs holds stands

@@ -6,7 +6,7 @@ use Rattle.gc_values.specs.declared.root.RawValue.{RawValue}
 use Rattle.gc_image.specs.Well.{AreWellObjects}
 use Rattle.gc_load_image.specs.declared.fault.LoadFault.{LoadFault}
 use Rattle.gc_load_image.specs.Loads.{global_present}
-use Rattle.gc_load_image.specs.Stages.{Complete, FailedValues, Fills, FoundValues, HeldStand, Standing, Writing, global_value, line_roots}
+use Rattle.gc_load_image.specs.Stages.{Complete, FailedValues, FillsStore, FoundValues, HeldStand, Standing, Writing, global_line_value, line_roots}
 use Rattle.gc_load_image.proofs.FillLemmas.{are_slots, filled, globals_stop, held_count, held_stand, part_stops}
 use Rattle.gc_load_image.proofs.LateLemmas.{writing_start}
 use Rattle.gc_load_image.proofs.PushedRoots.{same_twice}
@@ -18,10 +18,10 @@ use Rattle.gc_load_image.proofs.load.fill.Goals as goal
 complete_of : (g : Over) (c : In_ok-held g) → Complete g.H.GcHeap.KIND c.args.objects.now c.in_ok-handles.handles.items c.write_late.new.store
 complete_of g c = subst (λ (hs : List GcRootIndex). Complete g.H.GcHeap.KIND c.args.objects.now hs c.write_late.new.store) c.as_slice.ensures.value c.write_late.ensures.complete
 
-found_of : (g : Over) (c : In_ok-held g) → FoundValues g.H.GcHeap.KIND c.in_ok-handles.handles.items (map global_value c.args.globals.now) c.write_late.new.store (complete_of g c).table (complete_of g c).account c.in_ok-held.held.items c.global_values.new.store
+found_of : (g : Over) (c : In_ok-held g) → FoundValues g.H.GcHeap.KIND c.in_ok-handles.handles.items (map global_line_value c.args.globals.now) c.write_late.new.store (complete_of g c).table (complete_of g c).account c.in_ok-held.held.items c.global_values.new.store
 found_of g c =
     let complete = complete_of g c in
-    subst (λ (hs : List GcRootIndex). FoundValues g.H.GcHeap.KIND hs (map global_value c.args.globals.now) c.write_late.new.store complete.table complete.account c.in_ok-held.held.items c.global_values.new.store) c.as_slice-2.ensures.value
+    subst (λ (hs : List GcRootIndex). FoundValues g.H.GcHeap.KIND hs (map global_line_value c.args.globals.now) c.write_late.new.store complete.table complete.account c.in_ok-held.held.items c.global_values.new.store) c.as_slice-2.ensures.value
     (c.in_ok-held.ensures.finds complete.table complete.account
     (subst (λ (hs : List GcRootIndex). Standing g.H.GcHeap.KIND hs c.write_late.new.store complete.table complete.account) (sym c.as_slice-2.ensures.value) complete.standing) c.requires.global_range)
 
@@ -63,7 +63,7 @@ pub returns-in_err-handles-clause-fills : goal.returns-in_err-handles-clause-fil
 returns-in_err-handles-clause-fills g c =
     let limits = g.L.ResourceLimiter.limits c.args.limiter.now in
     let limits' = g.L.ResourceLimiter.limits c.make_objects.new.limiter in
-    subst (λ (r : Result ℕ LoadFault). Fills g.H.GcHeap.KIND c.args.objects.now c.args.globals.now limits limits' c.args.store.now r c.make_objects.new.store) (sym (err_is c.from_residual.result c.in_err-handles.field-0.0 c.from_residual.ensures.1))
+    subst (λ (r : Result ℕ LoadFault). FillsStore g.H.GcHeap.KIND c.args.objects.now c.args.globals.now limits limits' c.args.store.now r c.make_objects.new.store) (sym (err_is c.from_residual.result c.in_err-handles.field-0.0 c.from_residual.ensures.1))
     (part_stops g.H.GcHeap.KIND c.args.store.now.types c.args.objects.now limits limits' (sum_by line_roots c.args.objects.now) (sum_by line_roots c.args.objects.now + sum_by global_present c.args.globals.now) c.args.store.now c.in_err-handles.field-0.0 c.make_objects.new.store
     (omega arith) refl c.in_err-handles.ensures.makes)
 
@@ -72,11 +72,11 @@ returns-in_err-held-clause-fills g c =
     let limits = g.L.ResourceLimiter.limits c.args.limiter.now in
     let limits' = g.L.ResourceLimiter.limits c.make_objects.new.limiter in
     let complete : Complete g.H.GcHeap.KIND c.args.objects.now c.in_ok-handles.handles.items c.write_late.new.store = subst (λ (hs : List GcRootIndex). Complete g.H.GcHeap.KIND c.args.objects.now hs c.write_late.new.store) c.as_slice.ensures.value c.write_late.ensures.complete in
-    let failed : FailedValues g.H.GcHeap.KIND c.in_ok-handles.handles.items (map global_value c.args.globals.now) c.write_late.new.store complete.table complete.account c.in_err-held.field-0.0 c.global_values.new.store =
-    subst (λ (hs : List GcRootIndex). FailedValues g.H.GcHeap.KIND hs (map global_value c.args.globals.now) c.write_late.new.store complete.table complete.account c.in_err-held.field-0.0 c.global_values.new.store) c.as_slice-2.ensures.value
+    let failed : FailedValues g.H.GcHeap.KIND c.in_ok-handles.handles.items (map global_line_value c.args.globals.now) c.write_late.new.store complete.table complete.account c.in_err-held.field-0.0 c.global_values.new.store =
+    subst (λ (hs : List GcRootIndex). FailedValues g.H.GcHeap.KIND hs (map global_line_value c.args.globals.now) c.write_late.new.store complete.table complete.account c.in_err-held.field-0.0 c.global_values.new.store) c.as_slice-2.ensures.value
     (c.in_err-held.ensures.finds complete.table complete.account
     (subst (λ (hs : List GcRootIndex). Standing g.H.GcHeap.KIND hs c.write_late.new.store complete.table complete.account) (sym c.as_slice-2.ensures.value) complete.standing) c.requires.global_range) in
-    subst (λ (r : Result ℕ LoadFault). Fills g.H.GcHeap.KIND c.args.objects.now c.args.globals.now limits limits' c.args.store.now r c.global_values.new.store) (sym (err_is c.from_residual-in_err-held.result c.in_err-held.field-0.0 c.from_residual-in_err-held.ensures.1))
+    subst (λ (r : Result ℕ LoadFault). FillsStore g.H.GcHeap.KIND c.args.objects.now c.args.globals.now limits limits' c.args.store.now r c.global_values.new.store) (sym (err_is c.from_residual-in_err-held.result c.in_err-held.field-0.0 c.from_residual-in_err-held.ensures.1))
     (globals_stop g.H.GcHeap.KIND c.args.objects.now c.args.globals.now limits limits' c.args.store.now c.make_objects.new.store c.write_late.new.store c.in_ok-handles.handles.items c.in_ok-handles.ensures.makes complete c.write_late.ensures.goes
     c.in_err-held.field-0.0 c.global_values.new.store failed)
 

@@ -9,7 +9,7 @@ use Rattle.gc_image.specs.Declaring.{DeclareInTurn}
 use Rattle.gc_image.specs.Well.{AreRising, AreWellGlobals, AreWellObjects}
 use Rattle.gc_image.proofs.TurnLemmas.{one_turn}
 use Rattle.gc_load_image.specs.declared.fault.LoadFault.{LoadFault}
-use Rattle.gc_load_image.specs.Stages.{AreGlobalsInRange, AreInRange, DeclaresAll, Fills, LoadsImage, with_types}
+use Rattle.gc_load_image.specs.Stages.{AreGlobalsInRange, AreInRange, DeclaresAll, FillsStore, LoadsImage, with_types}
 use Rattle.gc_load_image.proofs.LoadLemmas.{declare_stops, globals_in_range, in_range, loads_all, making_start, settings_declared, settings_filled}
 use Rattle.gc_load_image.proofs.PushedRoots.{same_twice}
 use Rattle.gc_load_image.proofs.SettingsLemmas.{settings_twice}
@@ -63,8 +63,8 @@ returns g c =
     record {
       loads = loads_all g.H.GcHeap.KIND c.args.image.now c.requires.well limits limits' c.args.store.now.max_scoped c.declare_types.new.store c.fill-loaded.new.store c.exit_gc_lifo_scope.new.self c.enter_gc_lifo_scope-scope.result c.fill-loaded.result
           (same_types g at) holds.holds.settings.max_scoped holds.holds.scoped.same_count (c.enter_gc_lifo_scope-scope.ensures.seen ∙ holds.holds.scoped.same_count)
-          (subst (λ (gs : List GlobalLine). Fills g.H.GcHeap.KIND c.args.image.now.objects gs limits limits' c.declare_types.new.store c.fill-loaded.result c.fill-loaded.new.store) c.globals.ensures
-          (subst (λ (os : List ObjectLine). Fills g.H.GcHeap.KIND os c.globals.result.now limits limits' c.declare_types.new.store c.fill-loaded.result c.fill-loaded.new.store) c.objects.ensures c.fill-loaded.ensures.fills))
+          (subst (λ (gs : List GlobalLine). FillsStore g.H.GcHeap.KIND c.args.image.now.objects gs limits limits' c.declare_types.new.store c.fill-loaded.result c.fill-loaded.new.store) c.globals.ensures
+          (subst (λ (os : List ObjectLine). FillsStore g.H.GcHeap.KIND os c.globals.result.now limits limits' c.declare_types.new.store c.fill-loaded.result c.fill-loaded.new.store) c.objects.ensures c.fill-loaded.ensures.fills))
           c.exit_gc_lifo_scope.ensures.leaves;
       settings = settings_twice c.args.store.now c.declare_types.new.store c.exit_gc_lifo_scope.new.self (settings_declared g.H.GcHeap.KIND c.args.store.now c.declare_types.new.store c.requires.new c.declare_types.ensures.keeps)
           (settings_filled g.H.GcHeap.KIND c.objects.result.now c.globals.result.now limits limits' c.declare_types.new.store c.fill-loaded.new.store c.exit_gc_lifo_scope.new.self c.enter_gc_lifo_scope-scope.result c.fill-loaded.result

@@ -5,11 +5,11 @@ use Rattle.gc_values.specs.declared.root.GcRootIndex.{GcRootIndex}
 use Rattle.gc_values.specs.declared.root.RawValue.{RawValue}
 use Rattle.gc_image.specs.declared.image.ImageValue.{ImageValue}
 use Rattle.gc_image.specs.declared.image.ObjectLine.{ObjectLine}
-use Rattle.gc_image.specs.Text.{FitsValue}
+use Rattle.gc_image.specs.Text.{FitsImageValue}
 use Rattle.gc_image.specs.Well.{IsWellObject, as_object, line_values}
 use Rattle.gc_load_image.specs.declared.fault.LoadFault.{LoadFault}
 use Rattle.gc_load_image.specs.Loads.{line_count}
-use Rattle.gc_load_image.specs.Stages.{AreInRange, CanPlaceLine, FailedValues, FoundValues, IsLineOf, MakesNext, early_object}
+use Rattle.gc_load_image.specs.Stages.{AreInRange, CanPlaceLine, FailedValues, FoundValues, IsLineObject, MakesNext, early_object}
 use Rattle.gc_load_image.proofs.LineLemmas.{line_can, line_is}
 use Rattle.gc_load_image.proofs.MakingLemmas.{are_made, makes_next, values_stop}
 use Rattle.gc_load_image.proofs.PushedRoots.{same_twice}
@@ -18,7 +18,7 @@ use Rattle.gc_load_image.proofs.making.make_object.Given.{Over}
 use Rattle.gc_load_image.proofs.making.make_object.Goals.{After-as_slice}
 use Rattle.gc_load_image.proofs.making.make_object.Goals as goal
 
-in_range : (objects : List ObjectLine) (k : ℕ) (line : ObjectLine) → AreInRange objects → slice_get objects k ≡ Some line → (vs : List ImageValue) → vs ≡ line_values line → (index : ℕ) (v : ImageValue) → slice_get vs index ≡ Some v → FitsValue v
+in_range : (objects : List ObjectLine) (k : ℕ) (line : ObjectLine) → AreInRange objects → slice_get objects k ≡ Some line → (vs : List ImageValue) → vs ≡ line_values line → (index : ℕ) (v : ImageValue) → slice_get vs index ≡ Some v → FitsImageValue v
 in_range objects k line range here vs are index v e = range k line here index v (subst (λ (xs : List ImageValue). slice_get xs index ≡ Some v) are e)
 
 found_of : (g : Over) (c : After-as_slice g) → FoundValues g.H.GcHeap.KIND c.args.handles.now (line_values c.args.line.now) c.args.store.now c.requires.making.table c.requires.making.account c.in_ok-raws.raws.items c.raw_values.new.store
@@ -41,25 +41,25 @@ line_goes g c =
     (are_made g.H.GcHeap.KIND c.args.objects.now c.args.handles.now c.args.line.now c.args.store.now c.raw_values.new.store c.raw_values.new.store c.requires.making c.requires.well c.requires.here p)
     c.args.line.now (well_of g c) c.in_ok-raws.raws.items found.stand)
 
-line_of : (g : Over) (c : After-as_slice g) → IsLineOf c.raw_values.new.store (found_of g c).pushes.table c.args.line.now c.as_slice.result.now (early_object (length c.args.handles.now) c.args.line.now)
+line_of : (g : Over) (c : After-as_slice g) → IsLineObject c.raw_values.new.store (found_of g c).pushes.table c.args.line.now c.as_slice.result.now (early_object (length c.args.handles.now) c.args.line.now)
 line_of g c =
     let found = found_of g c in
     let p = found.pushes in
-    subst (λ (rs : List RawValue). IsLineOf c.raw_values.new.store p.table c.args.line.now rs (early_object (length c.args.handles.now) c.args.line.now)) (sym c.as_slice.ensures.value)
+    subst (λ (rs : List RawValue). IsLineObject c.raw_values.new.store p.table c.args.line.now rs (early_object (length c.args.handles.now) c.args.line.now)) (sym c.as_slice.ensures.value)
     (line_is g.H.GcHeap.KIND c.raw_values.new.store p.table (p.standing.holds.place, p.standing.holds.holds) c.args.objects.now (length c.args.handles.now)
     (are_made g.H.GcHeap.KIND c.args.objects.now c.args.handles.now c.args.line.now c.args.store.now c.raw_values.new.store c.raw_values.new.store c.requires.making c.requires.well c.requires.here p)
     c.args.line.now (well_of g c) c.in_ok-raws.raws.items found.stand)
 
-pub place_line-requires : goal.place_line-requires
-place_line-requires g c = line_goes g (goal.at.place_line-requires g c).After-as_slice
+pub allocate_line-requires : goal.allocate_line-requires
+allocate_line-requires g c = line_goes g (goal.at.allocate_line-requires g c).After-as_slice
 
 pub returns-clause-makes : goal.returns-clause-makes
 returns-clause-makes g c =
     let at = (goal.at.returns-clause-makes g c).After-as_slice in
     let p = (found_of g at).pushes in
-    makes_next g.H.GcHeap.KIND c.args.objects.now c.args.handles.now c.args.line.now c.args.store.now c.raw_values.new.store c.place_line.new.store c.requires.making c.requires.well c.requires.here p
-    c.raw_values.new.store.alloc_counter (g.L.ResourceLimiter.limits c.args.limiter.now) (g.L.ResourceLimiter.limits c.place_line.new.limiter) c.place_line.ensures.same c.place_line.result
-    (c.place_line.ensures.places p.table c.requires.making.account (early_object (length c.args.handles.now) c.args.line.now) p.standing.holds (line_of g at))
+    makes_next g.H.GcHeap.KIND c.args.objects.now c.args.handles.now c.args.line.now c.args.store.now c.raw_values.new.store c.allocate_line.new.store c.requires.making c.requires.well c.requires.here p
+    c.raw_values.new.store.alloc_counter (g.L.ResourceLimiter.limits c.args.limiter.now) (g.L.ResourceLimiter.limits c.allocate_line.new.limiter) c.allocate_line.ensures.same c.allocate_line.result
+    (c.allocate_line.ensures.places p.table c.requires.making.account (early_object (length c.args.handles.now) c.args.line.now) p.standing.holds (line_of g at))
 
 pub returns-in_err-raws-clause-makes : goal.returns-in_err-raws-clause-makes
 returns-in_err-raws-clause-makes g c =
@@ -73,4 +73,4 @@ returns-in_err-raws-clause-makes g c =
     (omega arith) (sym c.requires.making.standing.holds.holds.types) failed.pushes failed.cause)
 
 pub returns-clause-same : goal.returns-clause-same
-returns-clause-same g c = same_twice c.args.store.now c.raw_values.new.store c.place_line.new.store c.raw_values.ensures.same c.place_line.ensures.same
+returns-clause-same g c = same_twice c.args.store.now c.raw_values.new.store c.allocate_line.new.store c.raw_values.ensures.same c.allocate_line.ensures.same

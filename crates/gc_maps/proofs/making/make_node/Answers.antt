@@ -4,7 +4,7 @@ use Rattle.gc_model.specs.Stored.{stored_in}
 use Rattle.gc_model.specs.Stores.{StoreView}
 use Rattle.gc_model.specs.Table.{Table}
 use Rattle.gc_model.specs.Values.{Object, Value, struct}
-use Rattle.gc_store.specs.Requests.{CanPlaceFields, fields_of}
+use Rattle.gc_store.specs.Requests.{CanPlaceFields, struct_fields_of}
 use Rattle.gc_store.specs.Values.{AllStand}
 use Rattle.gc_values.specs.declared.root.RawValue.{RawValue}
 use Rattle.gc_values.specs.declared.faults.PlaceFault.{PlaceFault}
@@ -22,7 +22,7 @@ use Rattle.gc_maps.proofs.making.make_node.Goals.{After-place}
 
 -- the object is asked for of a type
 abbrev IsAsked : (D : Type 0) → StoreView D → Table D → List RawValue → Object D → ℕ → Type 0
-IsAsked D s t raws o ty = (vs : List Value) × (AllStand s t raws vs × (o ≡ struct ty (stored_in (fields_of t.types ty) vs)))
+IsAsked D s t raws o ty = (vs : List Value) × (AllStand s t raws vs × (o ≡ struct ty (stored_in (struct_fields_of t.types ty) vs)))
 
 pub place-requires : goal.place-requires
 place-requires g c =

@@ -2,7 +2,7 @@ use Rattle.std.proofs.Common.{ℤ, Option, Ok, subst, w64, to_z, of_z}
 use Rattle.std.proofs.lemmas.Int.{to_z-of_z}
 use Rattle.gc_maps.specs.declared.part.Node.{Node}
 use Rattle.gc_maps.specs.Ends.{EndsReading}
-use Rattle.gc_maps.specs.Gaps.{IsLeast}
+use Rattle.gc_maps.specs.Gaps.{IsLeastNode}
 use Rattle.gc_maps.specs.Paths.{Descended}
 use Rattle.gc_maps.proofs.NodeReads.{refused_later}
 use Rattle.gc_maps.proofs.Growing.{pushes_none}
@@ -26,4 +26,4 @@ returns-in-None-clause-takes g c t a ty tree holds is ordered above =
 pub returns-in-Err-clause-takes : goal.returns-in-Err-clause-takes
 returns-in-Err-clause-takes g c t a ty tree holds is ordered above =
     refused_later {A = Option Node} g.H.GcHeap.KIND 0 184 t t (λ s u found. Descended s u ty tree (to_z w64 (of_z w64 c.args.key)) c.descend.new.path.items found)
-    (λ s u least. IsLeast s u ty tree c.descend.new.path.items least) c.in-Err.fault c.descend.new.store (pushes_none 0 t) (c.in-Err.ensures.descends t a ty tree holds is ordered)
+    (λ s u least. IsLeastNode s u ty tree c.descend.new.path.items least) c.in-Err.fault c.descend.new.store (pushes_none 0 t) (c.in-Err.ensures.descends t a ty tree holds is ordered)

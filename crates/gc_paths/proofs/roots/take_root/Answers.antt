@@ -7,7 +7,7 @@ use Rattle.gc_store.specs.RootWords.{root_words, RootsWord}
 use Rattle.gc_paths.specs.declared.fault.PathFault.{PathFault}
 use Rattle.gc_paths.specs.Answers.{LacksRoots}
 use Rattle.gc_paths.specs.Parts.{parts}
-use Rattle.gc_paths.specs.Progress.{AnswersPart, GoesOn, TellsRoot, word_count}
+use Rattle.gc_paths.specs.Progress.{AnswersPart, SearchGoesOn, TellsRoot, word_count}
 use Rattle.gc_paths.proofs.Rooting.{root_live, root_passed, root_taken, root_refused}
 use Rattle.gc_paths.proofs.roots.take_root.Goals as goal
 
@@ -43,8 +43,8 @@ returns-in-Ok-Root-clause-takes g c b told count w progress e start =
 
 pub returns-in-Err-clause-takes : goal.returns-in-Err-clause-takes
 returns-in-Err-clause-takes g c b told count w progress e start =
-    subst (λ (why : PathFault). AnswersPart g.H.GcHeap.KIND b (GoesOn g.H.GcHeap.KIND b told 0 (count + word_count w) c.root_at.new.self (parts c.args.report.now) (TellsRoot b w)) (LacksRoots b.table (count + word_count w)) (Err why) c.root_at.new.self) (sym c.refused.ensures)
+    subst (λ (why : PathFault). AnswersPart g.H.GcHeap.KIND b (SearchGoesOn g.H.GcHeap.KIND b told 0 (count + word_count w) c.root_at.new.self (parts c.args.report.now) (TellsRoot b w)) (LacksRoots b.table (count + word_count w)) (Err why) c.root_at.new.self) (sym c.refused.ensures)
     (root_refused g.H.GcHeap.KIND b told count c.args.store.now (parts c.args.report.now) progress w start c.root_at.new.self c.in-Err.ensures.same c.in-Err.fault
-    (GoesOn g.H.GcHeap.KIND b told 0 (count + word_count w) c.root_at.new.self (parts c.args.report.now) (TellsRoot b w))
+    (SearchGoesOn g.H.GcHeap.KIND b told 0 (count + word_count w) c.root_at.new.self (parts c.args.report.now) (TellsRoot b w))
     (subst (λ (o : Option RootWord). RootsWord g.H.GcHeap.KIND c.args.store.now progress.holds.now b.place b.account o (Err c.in-Err.fault) c.root_at.new.self) e
     (c.in-Err.ensures.finds progress.holds.now b.place b.account progress.holds.there.0 progress.holds.there.1)) c.in-Err.ensures.err)

@@ -4,7 +4,7 @@ use Rattle.std.proofs.lemmas.Option.{none-some, same_Some, slice_get_within}
 use Rattle.gc_paths.specs.declared.fault.PathFault.{PathFault}
 use Rattle.gc_paths.specs.Answers.{LacksRoots, present_count}
 use Rattle.gc_paths.specs.Parts.{parts}
-use Rattle.gc_paths.specs.Progress.{AnswersPart, GoesOn, TellsRoot, TellsStarts, word_count}
+use Rattle.gc_paths.specs.Progress.{AnswersPart, SearchGoesOn, TellsRoot, TellsStarts, word_count}
 use Rattle.gc_paths.specs.StartWords.{is_start_name}
 use Rattle.gc_paths.proofs.StartRoots.{start_words}
 use Rattle.gc_paths.specs.Walks.{start_references}
@@ -30,11 +30,11 @@ returns-in_err-take_root-in-Some-clause-takes g c b is there =
     let w = start_found b.scoped s c.loop-number.store c.loop-number.invariant.adds c.loop-number.number c.in-Some.name (sym c.root_name.ensures ∙ c.in-Some.is) start in
     let goes = c.loop-number.invariant.goes b is there in
     let count : ℕ = sum_by word_count (take c.loop-number.number (start_words b.scoped s)) in
-    subst (λ (r : Result (Unit {0}) PathFault). AnswersPart g.H.GcHeap.KIND b (GoesOn g.H.GcHeap.KIND b [] 0 (present_count (start_references b.scoped b.table)) c.take_root.new.store (parts c.take_root.new.report) (TellsStarts b)) (LacksRoots b.table (present_count (start_references b.scoped b.table))) r c.take_root.new.store)
+    subst (λ (r : Result (Unit {0}) PathFault). AnswersPart g.H.GcHeap.KIND b (SearchGoesOn g.H.GcHeap.KIND b [] 0 (present_count (start_references b.scoped b.table)) c.take_root.new.store (parts c.take_root.new.report) (TellsStarts b)) (LacksRoots b.table (present_count (start_references b.scoped b.table))) r c.take_root.new.store)
     (sym (err_is c.from_residual.result c.in_err-take_root-in-Some.field-0.0 c.from_residual.ensures.1))
     (roots_refused g.H.GcHeap.KIND b s there c.loop-number.number w.0 w.1.0 c.in_err-take_root-in-Some.field-0.0
-    (GoesOn g.H.GcHeap.KIND b goes.told 0 (count + word_count w.0) c.take_root.new.store (parts c.take_root.new.report) (TellsRoot b w.0))
-    (GoesOn g.H.GcHeap.KIND b [] 0 (present_count (start_references b.scoped b.table)) c.take_root.new.store (parts c.take_root.new.report) (TellsStarts b))
+    (SearchGoesOn g.H.GcHeap.KIND b goes.told 0 (count + word_count w.0) c.take_root.new.store (parts c.take_root.new.report) (TellsRoot b w.0))
+    (SearchGoesOn g.H.GcHeap.KIND b [] 0 (present_count (start_references b.scoped b.table)) c.take_root.new.store (parts c.take_root.new.report) (TellsStarts b))
     c.take_root.new.store
     (c.in_err-take_root-in-Some.ensures.takes b goes.told count w.0 goes.progress w.1.1 (is_start_word g.H.GcHeap.KIND b s there c.loop-number.number w.0 w.1.0)))
 

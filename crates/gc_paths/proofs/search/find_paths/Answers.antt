@@ -7,7 +7,7 @@ use Rattle.gc_model.specs.Stores.{StoreView}
 use Rattle.gc_store.specs.OwnedWords.{HoldsThere}
 use Rattle.gc_paths.specs.Answers.{LacksRoots, RefusesPaths, present_count}
 use Rattle.gc_paths.specs.Parts.{parts}
-use Rattle.gc_paths.specs.Progress.{AnswersPart, Basis, Ended, GoesOn, PassesRoom, Stopped, TellsStarts}
+use Rattle.gc_paths.specs.Progress.{AnswersPart, Basis, Ended, SearchGoesOn, PassesRoom, StoppedSearch, TellsStarts}
 use Rattle.gc_paths.specs.Walks.{start_references}
 use Rattle.gc_paths.proofs.Ending.{found_all}
 use Rattle.gc_paths.proofs.Growing.{same_twice}
@@ -16,7 +16,7 @@ use Rattle.gc_paths.proofs.search.find_paths.Goals as goal
 
 module _ {D : Type 0} (layouts : Layouts) (b : Basis D) (s : StoreView D) (there : HoldsThere layouts s b.table b.place b.account) (new : StoreView D) where
   -- why the roots were not taken
-  roots_refused : (Went : Type 0) (why : PathFault) → AnswersPart layouts b Went (LacksRoots b.table (present_count (start_references b.scoped b.table))) (Err why) new → RefusesPaths b.scoped b.table why × Stopped layouts b new
+  roots_refused : (Went : Type 0) (why : PathFault) → AnswersPart layouts b Went (LacksRoots b.table (present_count (start_references b.scoped b.table))) (Err why) new → RefusesPaths b.scoped b.table why × StoppedSearch layouts b new
   roots_refused Went fault.WrongStore never = absurd never
   roots_refused Went fault.Unrooted never = absurd never
   roots_refused Went fault.NoObject never = absurd never
@@ -24,7 +24,7 @@ module _ {D : Type 0} (layouts : Layouts) (b : Basis D) (s : StoreView D) (there
   roots_refused Went fault.Memory stopped = (tt, stopped)
 
   -- or the objects
-  objects_refused : (Went : Type 0) (why : PathFault) → AnswersPart layouts b Went (PassesRoom b (present_count (start_references b.scoped b.table))) (Err why) new → RefusesPaths b.scoped b.table why × Stopped layouts b new
+  objects_refused : (Went : Type 0) (why : PathFault) → AnswersPart layouts b Went (PassesRoom b (present_count (start_references b.scoped b.table))) (Err why) new → RefusesPaths b.scoped b.table why × StoppedSearch layouts b new
   objects_refused Went fault.WrongStore never = absurd never
   objects_refused Went fault.Unrooted never = absurd never
   objects_refused Went fault.NoObject never = absurd never
@@ -42,11 +42,11 @@ take_roots-requires g c = c.new-report.ensures
 pub returns-in_err-take_roots-clause-finds : goal.returns-in_err-take_roots-clause-finds
 returns-in_err-take_roots-clause-finds g c b is there =
     handed_on _ (RefusesPaths b.scoped b.table) c.from_residual.result c.in_err-take_roots.field-0.0 c.from_residual.ensures.1
-    (roots_refused g.H.GcHeap.KIND b c.args.store.now there c.take_roots.new.store (GoesOn g.H.GcHeap.KIND b [] 0 (present_count (start_references b.scoped b.table)) c.take_roots.new.store (parts c.take_roots.new.report) (TellsStarts b)) c.in_err-take_roots.field-0.0 (c.in_err-take_roots.ensures.takes b is there)).0
+    (roots_refused g.H.GcHeap.KIND b c.args.store.now there c.take_roots.new.store (SearchGoesOn g.H.GcHeap.KIND b [] 0 (present_count (start_references b.scoped b.table)) c.take_roots.new.store (parts c.take_roots.new.report) (TellsStarts b)) c.in_err-take_roots.field-0.0 (c.in_err-take_roots.ensures.takes b is there)).0
 
 pub returns-in_err-take_roots-clause-stopped : goal.returns-in_err-take_roots-clause-stopped
 returns-in_err-take_roots-clause-stopped g c b is there =
-    (roots_refused g.H.GcHeap.KIND b c.args.store.now there c.take_roots.new.store (GoesOn g.H.GcHeap.KIND b [] 0 (present_count (start_references b.scoped b.table)) c.take_roots.new.store (parts c.take_roots.new.report) (TellsStarts b)) c.in_err-take_roots.field-0.0 (c.in_err-take_roots.ensures.takes b is there)).1
+    (roots_refused g.H.GcHeap.KIND b c.args.store.now there c.take_roots.new.store (SearchGoesOn g.H.GcHeap.KIND b [] 0 (present_count (start_references b.scoped b.table)) c.take_roots.new.store (parts c.take_roots.new.report) (TellsStarts b)) c.in_err-take_roots.field-0.0 (c.in_err-take_roots.ensures.takes b is there)).1
 
 pub returns-in_err-take_roots-clause-same : goal.returns-in_err-take_roots-clause-same
 returns-in_err-take_roots-clause-same g c = c.take_roots.ensures.same

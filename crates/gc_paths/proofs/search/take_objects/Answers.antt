@@ -2,7 +2,7 @@ use Rattle.std.proofs.Common.{◌+◌, length, Result, sym, subst, arith}
 use Rattle.gc_model.specs.Reach.{object_values}
 use Rattle.gc_paths.specs.declared.fault.PathFault.{PathFault}
 use Rattle.gc_paths.specs.Parts.{parts}
-use Rattle.gc_paths.specs.Progress.{AnswersPart, Ended, GoesOn, PassesRoom, TellsValues, values_count}
+use Rattle.gc_paths.specs.Progress.{AnswersPart, Ended, SearchGoesOn, PassesRoom, TellsValues, values_count}
 use Rattle.gc_paths.proofs.Growing.{same_itself, same_twice, err_is}
 use Rattle.gc_paths.proofs.ObjectsLoop.{object_told, told_count, entry_told, round_begin, round_progress, round_reading, round_step, round_refused, round_end, round_over}
 use Rattle.gc_paths.proofs.search.take_objects.Goals as goal
@@ -54,7 +54,7 @@ returns-in_err-take_values-clause-takes g c b told count progress =
     subst (λ (r : Result (Unit {0}) PathFault). AnswersPart g.H.GcHeap.KIND b (Ended g.H.GcHeap.KIND b told count c.take_values.new.store (parts c.take_values.new.report)) (PassesRoom b count) r c.take_values.new.store)
     (sym (err_is c.from_residual.result c.in_err-take_values.field-0.0 c.from_residual.ensures.1))
     (round_refused g.H.GcHeap.KIND b told count c.loop-entry.entry c.loop-entry.store (parts c.loop-entry.report) round x.0 x.1 o.0 o.1 c.in_err-take_values.field-0.0
-    (GoesOn g.H.GcHeap.KIND b round.told (x.0.entry.length + 1) (round.total + values_count (object_values o.0)) c.take_values.new.store (parts c.take_values.new.report) (TellsValues (x.0.entry.length + 1) (length (object_values o.0)) (object_values o.0)))
+    (SearchGoesOn g.H.GcHeap.KIND b round.told (x.0.entry.length + 1) (round.total + values_count (object_values o.0)) c.take_values.new.store (parts c.take_values.new.report) (TellsValues (x.0.entry.length + 1) (length (object_values o.0)) (object_values o.0)))
     (Ended g.H.GcHeap.KIND b told count c.take_values.new.store (parts c.take_values.new.report))
     c.take_values.new.store
     (c.in_err-take_values.ensures.takes b round.told (x.0.entry.length + 1) round.total o.0

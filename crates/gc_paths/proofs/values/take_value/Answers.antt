@@ -8,7 +8,7 @@ use Rattle.gc_store.specs.Roots.{NamesReference}
 use Rattle.gc_paths.specs.declared.entry.PathParent.TheVariants as parent
 use Rattle.gc_paths.specs.declared.fault.PathFault.{PathFault}
 use Rattle.gc_paths.specs.Answers.{LacksRoots}
-use Rattle.gc_paths.specs.Progress.{AnswersPart, GoesOn, TellsValue, value_count}
+use Rattle.gc_paths.specs.Progress.{AnswersPart, SearchGoesOn, TellsValue, present_in_value}
 use Rattle.gc_paths.specs.Taking.{TakesReference}
 use Rattle.gc_paths.proofs.Reading.{held, reads_one, has_value, read_taken, read_passed, read_refused, read_live, take_inside}
 use Rattle.gc_paths.specs.Parts.{parts}
@@ -66,6 +66,6 @@ pub returns-in-Err-clause-takes : goal.returns-in-Err-clause-takes
 returns-in-Err-clause-takes g c b told bound count o v progress reading length_is value_at =
     let before = (goal.at.returns-in-Err-clause-takes g c).After-index-handle in
     let has = has_value g.H.GcHeap.KIND b told bound count c.args.store.now (parts c.args.report.now) progress c.args.entry o reading c.index-handle.result.now (handle_there g before) c.args.index v value_at in
-    subst (λ (why : PathFault). AnswersPart g.H.GcHeap.KIND b (GoesOn g.H.GcHeap.KIND b told bound (count + value_count v) c.read_value.new.self (parts c.args.report.now) (TellsValue bound v)) (LacksRoots b.table (count + value_count v)) (Err why) c.read_value.new.self) (sym c.refused.ensures)
+    subst (λ (why : PathFault). AnswersPart g.H.GcHeap.KIND b (SearchGoesOn g.H.GcHeap.KIND b told bound (count + present_in_value v) c.read_value.new.self (parts c.args.report.now) (TellsValue bound v)) (LacksRoots b.table (count + present_in_value v)) (Err why) c.read_value.new.self) (sym c.refused.ensures)
     (read_refused g.H.GcHeap.KIND b told bound count c.args.store.now (parts c.args.report.now) progress c.args.entry o reading c.index-handle.result.now (handle_there g before) c.args.index c.read_value.new.self c.in-Err.ensures.same
-    v c.in-Err.fault (GoesOn g.H.GcHeap.KIND b told bound (count + value_count v) c.read_value.new.self (parts c.args.report.now) (TellsValue bound v)) (c.in-Err.ensures.reads progress.holds.now b.account v (held g.H.GcHeap.KIND b told bound count c.args.store.now (parts c.args.report.now) progress) has) c.in-Err.ensures.err)
+    v c.in-Err.fault (SearchGoesOn g.H.GcHeap.KIND b told bound (count + present_in_value v) c.read_value.new.self (parts c.args.report.now) (TellsValue bound v)) (c.in-Err.ensures.reads progress.holds.now b.account v (held g.H.GcHeap.KIND b told bound count c.args.store.now (parts c.args.report.now) progress) has) c.in-Err.ensures.err)

@@ -9,7 +9,7 @@ use Rattle.gc_paths.specs.declared.entry.PathEntry.{PathEntry}
 use Rattle.gc_paths.specs.declared.fault.PathFault.{PathFault}
 use Rattle.gc_paths.specs.Answers.{LacksRoots}
 use Rattle.gc_paths.specs.Parts.{parts}
-use Rattle.gc_paths.specs.Progress.{AnswersPart, Basis, GoesOn, Progress, TellsValue, TellsValues, value_count, values_count}
+use Rattle.gc_paths.specs.Progress.{AnswersPart, Basis, SearchGoesOn, Progress, TellsValue, TellsValues, present_in_value, values_count}
 use Rattle.gc_paths.specs.Reports.{Told}
 use Rattle.gc_paths.specs.Steps.{IsReading}
 use Rattle.gc_paths.proofs.Growing.{same_itself, same_twice, err_is}
@@ -17,7 +17,7 @@ use Rattle.gc_paths.proofs.Reading.{names_one, object_here, take_inside, take_li
 use Rattle.gc_paths.proofs.ValuesLoop.{few_told, entry_there, reading_kept, values_begin, values_more, values_end, values_refused}
 use Rattle.gc_paths.proofs.values.take_values.Given as given
 use Rattle.gc_paths.proofs.values.take_values.Goals as goal
-use Rattle.gc_paths.proofs.values.take_values.Goals.{After-index, After-count_values-index-end}
+use Rattle.gc_paths.proofs.values.take_values.Goals.{After-index, After-count_named_values-index-end}
 
 pub index-handle-requires : goal.index-handle-requires
 index-handle-requires g c =
@@ -57,17 +57,17 @@ overflow_add-length g c =
     let few = few_told g.H.GcHeap.KIND can.basis can.told can.bound can.count c.args.store.now (parts c.args.report.now) can.progress in
     record { fits = omega (arith, next, is, short, inside, same, few) }
 
-pub count_values-index-end-requires : goal.count_values-index-end-requires
-count_values-index-end-requires g c =
-    let at = (goal.at.count_values-index-end-requires g c).After-index in
+pub count_named_values-index-end-requires : goal.count_named_values-index-end-requires
+count_named_values-index-end-requires g c =
+    let at = (goal.at.count_named_values-index-end-requires g c).After-index in
     take_live g.H.GcHeap.KIND c.args.store.now (parts c.args.report.now) c.args.entry c.requires c.index-handle.result.now (handle_at g at)
 
 -- the object has as many values as were counted
-count_is : (g : given.Over) (c : After-count_values-index-end g) (b : Basis g.row.D.Denot) (told : List Told) (bound count : ℕ) (o : Object g.row.D.Denot) → Progress g.H.GcHeap.KIND b told bound count c.args.store.now (parts c.args.report.now) → IsReading b told bound c.args.entry o
-    → c.count_values-index-end.result ≡ length (object_values o)
+count_is : (g : given.Over) (c : After-count_named_values-index-end g) (b : Basis g.row.D.Denot) (told : List Told) (bound count : ℕ) (o : Object g.row.D.Denot) → Progress g.H.GcHeap.KIND b told bound count c.args.store.now (parts c.args.report.now) → IsReading b told bound c.args.entry o
+    → c.count_named_values-index-end.result ≡ length (object_values o)
 count_is g c b told bound count o progress reading =
-    let at = (goal.at.After-count_values-index-end g c).After-index in
-    c.count_values-index-end.ensures progress.holds.now reading.one.position o (b.place, progress.holds.there.0)
+    let at = (goal.at.After-count_named_values-index-end g c).After-index in
+    c.count_named_values-index-end.ensures progress.holds.now reading.one.position o (b.place, progress.holds.there.0)
     (names_one g.H.GcHeap.KIND b told bound count c.args.store.now (parts c.args.report.now) progress c.args.entry o reading c.index-handle.result.now (handle_at g at))
     (object_here g.H.GcHeap.KIND b told bound count c.args.store.now (parts c.args.report.now) progress c.args.entry o reading c.index-handle.result.now (handle_at g at))
 
@@ -79,7 +79,7 @@ loop-index-init g c = record {
 
 pub take_value-requires : goal.take_value-requires
 take_value-requires g c =
-    let at = (goal.at.take_value-requires g c).After-count_values-index-end in
+    let at = (goal.at.take_value-requires g c).After-count_named_values-index-end in
     let can = c.requires in
     let goes = c.loop-index.invariant.goes can.basis can.told can.bound can.count can.object can.progress can.reading in
     let counted = count_is g at can.basis can.told can.bound can.count can.object can.progress can.reading in
@@ -100,17 +100,17 @@ take_value-requires g c =
 
 pub returns-in_err-take_value-clause-takes : goal.returns-in_err-take_value-clause-takes
 returns-in_err-take_value-clause-takes g c b told bound count o progress reading =
-    let at = (goal.at.returns-in_err-take_value-clause-takes g c).After-count_values-index-end in
-    let before = (goal.at.After-count_values-index-end g at).After-index in
+    let at = (goal.at.returns-in_err-take_value-clause-takes g c).After-count_named_values-index-end in
+    let before = (goal.at.After-count_named_values-index-end g at).After-index in
     let goes = c.loop-index.invariant.goes b told bound count o progress reading in
     let counted = count_is g at b told bound count o progress reading in
     let v = value_below (object_values o) c.loop-index.index (omega (arith, counted, c.loop-index-test.true)) in
     let now : ℕ = count + values_count (take c.loop-index.index (object_values o)) in
-    subst (λ (r : Result (Unit {0}) PathFault). AnswersPart g.H.GcHeap.KIND b (GoesOn g.H.GcHeap.KIND b told bound (count + values_count (object_values o)) c.take_value.new.store (parts c.take_value.new.report) (TellsValues bound (length (object_values o)) (object_values o))) (LacksRoots b.table (count + values_count (object_values o))) r c.take_value.new.store)
+    subst (λ (r : Result (Unit {0}) PathFault). AnswersPart g.H.GcHeap.KIND b (SearchGoesOn g.H.GcHeap.KIND b told bound (count + values_count (object_values o)) c.take_value.new.store (parts c.take_value.new.report) (TellsValues bound (length (object_values o)) (object_values o))) (LacksRoots b.table (count + values_count (object_values o))) r c.take_value.new.store)
     (sym (err_is c.from_residual.result c.in_err-take_value.field-0.0 c.from_residual.ensures.1))
     (values_refused g.H.GcHeap.KIND b told bound count (object_values o) c.loop-index.index v.0 v.1 c.in_err-take_value.field-0.0
-    (GoesOn g.H.GcHeap.KIND b goes.told bound (now + value_count v.0) c.take_value.new.store (parts c.take_value.new.report) (TellsValue bound v.0))
-    (GoesOn g.H.GcHeap.KIND b told bound (count + values_count (object_values o)) c.take_value.new.store (parts c.take_value.new.report) (TellsValues bound (length (object_values o)) (object_values o)))
+    (SearchGoesOn g.H.GcHeap.KIND b goes.told bound (now + present_in_value v.0) c.take_value.new.store (parts c.take_value.new.report) (TellsValue bound v.0))
+    (SearchGoesOn g.H.GcHeap.KIND b told bound (count + values_count (object_values o)) c.take_value.new.store (parts c.take_value.new.report) (TellsValues bound (length (object_values o)) (object_values o)))
     c.take_value.new.store
     (c.in_err-take_value.ensures.takes b goes.told bound now o v.0 goes.progress (reading_kept b told goes.told bound c.args.entry o goes.kept reading) (next_length g before b told bound count o progress reading) v.1))
 
@@ -119,8 +119,8 @@ returns-in_err-take_value-clause-same g c = same_twice c.args.store.now c.loop-i
 
 pub loop-index-preserved : goal.loop-index-preserved
 loop-index-preserved g c =
-    let at = (goal.at.loop-index-preserved g c).After-count_values-index-end in
-    let before = (goal.at.After-count_values-index-end g at).After-index in
+    let at = (goal.at.loop-index-preserved g c).After-count_named_values-index-end in
+    let before = (goal.at.After-count_named_values-index-end g at).After-index in
     record {
       goes = λ b told bound count o progress reading.
           let goes = c.loop-index.invariant.goes b told bound count o progress reading in
@@ -133,7 +133,7 @@ loop-index-preserved g c =
 
 pub returns-clause-takes : goal.returns-clause-takes
 returns-clause-takes g c b told bound count o progress reading =
-    let at = (goal.at.returns-clause-takes g c).After-count_values-index-end in
+    let at = (goal.at.returns-clause-takes g c).After-count_named_values-index-end in
     let counted = count_is g at b told bound count o progress reading in
     let past = c.loop-index-test.false in
     let below = c.loop-index.auto.index-end in

@@ -1,5 +1,5 @@
 use Rattle.std.proofs.Common.{◌≡◌, ◌-◌, ◌^◌, ℕ, true, false, min}
-use Rattle.gc_owner.specs.Owners.{kind_of}
+use Rattle.gc_owner.specs.Owners.{heap_kind}
 use Rattle.gc_owner.specs.Going.{left_of}
 use Rattle.gc_model.specs.Stores.{StoreView}
 use Rattle.gc_store.specs.Collectings.{IsOpen}
@@ -9,8 +9,8 @@ abbrev pub invariant-increments : goal.invariant-increments
 invariant-increments g l = record {
   same_reference : l.collecting.home.ghost_name ≡ l.fn.collecting.home.ghost_name;
   begun : l.collecting.inside.begun ≡ true;
-  goes : (old : StoreView g.row.D.Denot) → IsOpen (kind_of g.H.GcHeap.KIND g.H.GcHeap.seen g.H.GcHeap.sound g.H.GcHeap.under_way) old 0 true l.fn.collecting.inside
-      → (n : ℕ) × (IsOpen (kind_of g.H.GcHeap.KIND g.H.GcHeap.seen g.H.GcHeap.sound g.H.GcHeap.under_way) old n false l.collecting.inside × (l.count ≡ min n (2 ^ 64 - 1)));
+  goes : (old : StoreView g.row.D.Denot) → IsOpen (heap_kind g.H.GcHeap.KIND g.H.GcHeap.seen g.H.GcHeap.sound g.H.GcHeap.under_way) old 0 true l.fn.collecting.inside
+      → (n : ℕ) × (IsOpen (heap_kind g.H.GcHeap.KIND g.H.GcHeap.seen g.H.GcHeap.sound g.H.GcHeap.under_way) old n false l.collecting.inside × (l.count ≡ min n (2 ^ 64 - 1)));
 }
 
 abbrev pub decreases-increments : goal.decreases-increments

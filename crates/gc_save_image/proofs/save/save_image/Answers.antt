@@ -2,11 +2,11 @@ use Rattle.std.proofs.Common.{◌<◌, ℕ, length, Vec, Global, sym, ap, subst,
 use Rattle.gc_types.specs.Declarations.{TypeTable}
 use Rattle.gc_model.specs.Table.{Table}
 use Rattle.gc_policy.specs.Accounts.{Account, HoldsAccount}
-use Rattle.gc_image.specs.Well.{IsHeld}
+use Rattle.gc_image.specs.Well.{GlobalHolds}
 use Rattle.gc_image_collect.specs.Answers.{RefusesCollection}
 use Rattle.gc_image_write.specs.Order.{AreClosed}
 use Rattle.gc_image_write.specs.Plain.{ArePlain}
-use Rattle.gc_image_write.specs.TypeWords.{AreCommandsOf}
+use Rattle.gc_image_write.specs.TypeWords.{AreTypeCommands}
 use Rattle.gc_save_image.proofs.Saving.{are_not_plain, are_plain, closed, held, none_pushed, not_plain, saves}
 use Rattle.gc_save_image.proofs.save.save_image.Given as given
 use Rattle.gc_save_image.proofs.save.save_image.Goals as goal
@@ -47,8 +47,8 @@ write_ordered-requires-clause-held g c =
     let t = c.stores_hold_tables.ensures.0 in
     let a = c.stores_hold_tables.ensures.1.0 in
     let holds = c.stores_hold_tables.ensures.1.1 in
-    subst (λ os. (number : ℕ) → IsHeld c.as_slice-2.result.now number → number < length os) (sym c.as_slice.ensures.value)
-    (subst (λ gs. (number : ℕ) → IsHeld gs number → number < length c.in-Ok.collected.objects.items) (sym c.as_slice-2.ensures.value)
+    subst (λ os. (number : ℕ) → GlobalHolds c.as_slice-2.result.now number → number < length os) (sym c.as_slice.ensures.value)
+    (subst (λ gs. (number : ℕ) → GlobalHolds gs number → number < length c.in-Ok.collected.objects.items) (sym c.as_slice-2.ensures.value)
     (held t holds.holds.typed (plain_in g c t a holds) c.in-Ok.collected (c.in-Ok.ensures.collects t a holds)))
 
 pub returns-clause-saves : goal.returns-clause-saves
@@ -56,7 +56,7 @@ returns-clause-saves g c t a held =
     let plain = plain_in g (goal.at.returns-clause-saves g c).After-as_slice-2 t a held in
     let left = c.collect_objects.ensures.leaves t a held in
     saves c.answered.result c.write_ordered.result c.answered.ensures t held.holds.typed plain c.in-Ok.collected (c.in-Ok.ensures.collects t a held) c.in-Ok-Some.commands.items
-    (subst (λ ts. AreCommandsOf ts c.in-Ok-Some.commands.items) (ap (λ (x : TypeTable). x.declarations) c.types.ensures ∙ held.holds.types) (rw c.in-Ok-Some.field-0-is at c.in-Ok-Some.ensures.declare))
+    (subst (λ ts. AreTypeCommands ts c.in-Ok-Some.commands.items) (ap (λ (x : TypeTable). x.declarations) c.types.ensures ∙ held.holds.types) (rw c.in-Ok-Some.field-0-is at c.in-Ok-Some.ensures.declare))
     c.types-2.result.now.declarations (ap (λ (x : TypeTable). x.declarations) c.types-2.ensures ∙ left.holds.holds.types)
     c.as_slice.result.now c.as_slice.ensures.value c.as_slice-2.result.now c.as_slice-2.ensures.value (λ (v : Vec ℕ Global). v.items) c.write_ordered.ensures.some c.write_ordered.ensures.none
 

@@ -1,13 +1,13 @@
 use Rattle.std.proofs.Common.{◌≡◌, Option, sym, ◌∙◌, subst}
 use Rattle.std.specs.Prelude.{IfSome}
 use Rattle.gc_script.specs.declared.objects.NamedObject.{NamedObject}
-use Rattle.gc_script.specs.Named.{TellsObject, IsNamed}
+use Rattle.gc_script.specs.Named.{TellsObject, IsNamedSomewhere}
 use Rattle.gc_script.proofs.ObjectLemmas.{found_named, tells_taken, tells_other, described_root}
 use Rattle.gc_script.proofs.objects.object_of.Goals as goal
 
 pub returns-then-takes-clause-named : goal.returns-then-takes-clause-named
 returns-then-takes-clause-named g c finds =
-    subst (λ (o : Option NamedObject). IfSome o (IsNamed g.H.GcHeap.KIND c.args.store.now c.args.wanted)) (sym c.describe.ensures)
+    subst (λ (o : Option NamedObject). IfSome o (IsNamedSomewhere g.H.GcHeap.KIND c.args.store.now c.args.wanted)) (sym c.describe.ensures)
     (found_named g.H.GcHeap.KIND c.args.store.now c.args.root c.args.wanted c.args.object.now finds (sym c.takes.ensures ∙ c.if-takes.true))
 
 pub returns-then-takes-clause-tells : goal.returns-then-takes-clause-tells

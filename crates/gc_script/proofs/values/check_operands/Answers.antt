@@ -2,7 +2,7 @@ use Rattle.std.proofs.Common.{◌≡◌, Some, length, sym, ap, ◌∙◌, subst
 use Rattle.std.specs.List.{slice_get}
 use Rattle.std.proofs.lemmas.List.{length-map}
 use Rattle.std.proofs.lemmas.Option.{slice_get_read}
-use Rattle.gc_script.specs.Values.{set_operand, set_operands, ChecksValues}
+use Rattle.gc_script.specs.Values.{set_operand, set_operands, ChecksOperands}
 use Rattle.gc_script.proofs.CheckLemmas.{err_is, CheckedSoFar, checked_more, checked_refused, checked_storable, checked_plain, checked_all}
 use Rattle.gc_script.proofs.OperandLemmas.{set_at}
 use Rattle.gc_script.proofs.values.check_operands.Given as given
@@ -18,7 +18,7 @@ value_is g c =
 
 pub returns-in_err-check_value-clause-checks : goal.returns-in_err-check_value-clause-checks
 returns-in_err-check_value-clause-checks g c s vs holds are =
-    subst (ChecksValues c.args.store.now s c.args.types.now vs (set_operands c.args.registers.now c.args.operands.now)) (sym (err_is c.from_residual.result c.in_err-check_value.field-0.0 c.from_residual.ensures.1))
+    subst (ChecksOperands c.args.store.now s c.args.types.now vs (set_operands c.args.registers.now c.args.operands.now)) (sym (err_is c.from_residual.result c.in_err-check_value.field-0.0 c.from_residual.ensures.1))
     (checked_refused g.H.GcHeap.KIND c.args.store.now c.args.types.now (set_operands c.args.registers.now c.args.operands.now) c.loop-index.index c.loop-index.invariant c.value_or_null-value.result
     (value_is g (goal.at.returns-in_err-check_value-clause-checks g c).After-value_or_null-value)
     c.type_at.result c.type_at.ensures c.in_err-check_value.field-0.0 c.in_err-check_value.ensures.checks s vs holds are)

@@ -4,7 +4,7 @@ use Rattle.gc_types.specs.declared.kind.Layouts.{Layouts}
 use Rattle.gc_types.specs.Declarations.{Shape, TypeTable}
 use Rattle.gc_view.specs.Heaps.{HeapObject}
 use Rattle.gc_owner.specs.Writes.{IsNumberPlace, WritesBytes}
-use Rattle.gc_values.specs.HeldSlots.{HasSlot, FindsSlot}
+use Rattle.gc_values.specs.HeldSlots.{HasStorageSlot, FindsSlot}
 use Rattle.gc_values.specs.Filling.{BytesFit, IsToFill}
 use Rattle.gc_values.proofs.Filled.{no_bytes_filled, has_byte, byte_found, bytes_go, bytes_filled}
 use Rattle.gc_values.proofs.fill.write_bytes.Given.{Over}
@@ -22,8 +22,8 @@ pub slot_at-first-requires : goal.slot_at-first-requires
 slot_at-first-requires g c =
     let at = (goal.at.slot_at-first-requires g c).After-is_ready in
     let can = c.requires.can in
-    subst (λ (k : Layouts). HasSlot k c.types.result.now.declarations c.args.ty 0) (sym c.KIND.ensures)
-    (subst (λ (ts : TypeTable). HasSlot g.H.GcHeap.KIND ts.declarations c.args.ty 0) (sym c.types.ensures)
+    subst (λ (k : Layouts). HasStorageSlot k c.types.result.now.declarations c.args.ty 0) (sym c.KIND.ensures)
+    (subst (λ (ts : TypeTable). HasStorageSlot g.H.GcHeap.KIND ts.declarations c.args.ty 0) (sym c.types.ensures)
     (has_byte g.H.GcHeap.KIND c.args.owner.now.seen c.args.gc_ref.now c.args.ty c.args.bytes.now can.object can.shape can.count can.to_fill (some g at) c.is_ready.ensures.can c.is_ready.ensures.heap))
 
 -- the slot is that of the first element, as any fields are said to be

@@ -1,11 +1,11 @@
 use Rattle.std.proofs.Common.{◌≡◌, ℕ, ◌<◌, sym, subst, arith}
 use Rattle.gc_types.specs.declared.kind.Layouts.{Layouts}
 use Rattle.gc_types.specs.Declarations.{Shape, TypeTable}
-use Rattle.gc_values.specs.Words.{HandleRoots, handle_roots, AreRising}
+use Rattle.gc_values.specs.Words.{HandleRoots, handle_roots, AreOwnedRising}
 use Rattle.gc_view.specs.Heaps.{HeapObject}
 use Rattle.gc_view.specs.Slots.{StorageSlot}
-use Rattle.gc_values.specs.Kept.{KeptAs, IsKept}
-use Rattle.gc_values.specs.HeldSlots.{storage_slot, HasSlot, FindsSlot}
+use Rattle.gc_values.specs.Kept.{KeptAs, CanBeKept}
+use Rattle.gc_values.specs.HeldSlots.{storage_slot, HasStorageSlot, FindsSlot}
 use Rattle.gc_values.specs.Filling.{SameFits, IsToFill, AreElements, FillsAll}
 use Rattle.gc_values.proofs.Filled.{first, none_filled, has_first, first_found, are_elements, same_filled}
 use Rattle.gc_values.proofs.fill.write_same.Given.{Over}
@@ -19,7 +19,7 @@ returns-then-count-eq0 g c = λ object shape n f. none_filled g.H.GcHeap.KIND c.
 some : (g : Over) (c : After-is_ready g) → 0 < c.args.count
 some g c = omega (arith, c.if-count-eq0.false)
 
-has : (g : Over) (c : After-is_ready g) → HasSlot g.H.GcHeap.KIND c.args.owner.now.seen.types.declarations c.args.ty 0
+has : (g : Over) (c : After-is_ready g) → HasStorageSlot g.H.GcHeap.KIND c.args.owner.now.seen.types.declarations c.args.ty 0
 has g c =
     let can = c.requires.can in
     has_first g.H.GcHeap.KIND c.args.owner.now.seen c.args.gc_ref.now c.args.ty (ids_of c.args.interned.now) c.args.value c.args.count can.object can.shape can.count can.to_fill (some g c) c.is_ready.ensures.can c.is_ready.ensures.heap
@@ -27,17 +27,17 @@ has g c =
 pub slot_at-first-requires : goal.slot_at-first-requires
 slot_at-first-requires g c =
     let at = (goal.at.slot_at-first-requires g c).After-is_ready in
-    subst (λ (k : Layouts). HasSlot k c.types.result.now.declarations c.args.ty 0) (sym c.KIND.ensures)
-    (subst (λ (ts : TypeTable). HasSlot g.H.GcHeap.KIND ts.declarations c.args.ty 0) (sym c.types.ensures) (has g at))
+    subst (λ (k : Layouts). HasStorageSlot k c.types.result.now.declarations c.args.ty 0) (sym c.KIND.ensures)
+    (subst (λ (ts : TypeTable). HasStorageSlot g.H.GcHeap.KIND ts.declarations c.args.ty 0) (sym c.types.ensures) (has g at))
 
 pub stored_value-stored-requires-clause-rising : goal.stored_value-stored-requires-clause-rising
-stored_value-stored-requires-clause-rising g c = subst AreRising (sym c.owned.ensures) c.requires.can.to_fill.rising
+stored_value-stored-requires-clause-rising g c = subst AreOwnedRising (sym c.owned.ensures) c.requires.can.to_fill.rising
 
 pub stored_value-stored-requires-clause-kept : goal.stored_value-stored-requires-clause-kept
 stored_value-stored-requires-clause-kept g c =
     let at = (goal.at.stored_value-stored-requires-clause-kept g c).After-is_ready in
     let same : record { scoped = c.scoped.result.now; owned = c.owned.result.now } ≡ handle_roots c.args.owner.now.seen.roots = λ i. record { scoped = c.scoped.ensures i; owned = c.owned.ensures i } in
-    subst (λ (es : HandleRoots). IsKept (ids_of c.args.interned.now) es c.args.value) (sym same) (c.requires.can.to_fill.fit.kept (some g at))
+    subst (λ (es : HandleRoots). CanBeKept (ids_of c.args.interned.now) es c.args.value) (sym same) (c.requires.can.to_fill.fit.kept (some g at))
 
 -- the slot is that of the first element, as any fields are said to be
 slot_is : (g : Over) (c : After-stored_value-stored g) (object : HeapObject) (shape : Shape) (n : ℕ) (f : IsToFill g.H.GcHeap.KIND c.args.owner.now.seen c.args.gc_ref.now c.args.ty (SameFits (ids_of c.args.interned.now) c.args.value c.args.count) object shape n)

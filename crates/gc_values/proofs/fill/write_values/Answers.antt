@@ -3,12 +3,12 @@ use Rattle.std.specs.List.{slice_get}
 use Rattle.std.proofs.lemmas.Option.{slice_get_read}
 use Rattle.gc_types.specs.declared.kind.Layouts.{Layouts}
 use Rattle.gc_types.specs.Declarations.{Shape, TypeTable}
-use Rattle.gc_values.specs.Words.{HandleRoots, handle_roots, AreRising}
+use Rattle.gc_values.specs.Words.{HandleRoots, handle_roots, AreOwnedRising}
 use Rattle.gc_owner.specs.Owners.{OwnerView}
 use Rattle.gc_view.specs.Heaps.{HeapObject}
 use Rattle.gc_view.specs.Slots.{StorageSlot}
-use Rattle.gc_values.specs.Kept.{KeptAs, IsKept, code_of}
-use Rattle.gc_values.specs.HeldSlots.{storage_slot, HasSlot, FindsSlot, CanWriteSlot, WritesAt}
+use Rattle.gc_values.specs.Kept.{KeptAs, CanBeKept, kept_code}
+use Rattle.gc_values.specs.HeldSlots.{storage_slot, HasStorageSlot, FindsSlot, CanWriteSlot, WritesAt}
 use Rattle.gc_values.specs.Filling.{EachFits, IsToFill, slot_bytes}
 use Rattle.gc_values.proofs.EachValue.{FillsTo, fills-none, slot_here, has_slot, small_index, is_kept, slot_found, can_write, fills-more, fills-all}
 use Rattle.gc_values.proofs.fill.write_values.Given.{Over}
@@ -39,7 +39,7 @@ overflow_cast-index g c =
     omega (arith, small)
 
 -- the slot of the index is in the type table
-has : (g : Over) (c : After-is_ready g) → HasSlot g.H.GcHeap.KIND c.loop-index.owner.seen.types.declarations c.args.ty c.loop-index.index
+has : (g : Over) (c : After-is_ready g) → HasStorageSlot g.H.GcHeap.KIND c.loop-index.owner.seen.types.declarations c.args.ty c.loop-index.index
 has g c =
     let can = c.requires.can in
     has_slot g.H.GcHeap.KIND (ids_of c.args.interned.now) c.args.values.now c.args.owner.now.seen c.args.gc_ref.now c.args.ty can.object can.shape can.count can.to_fill c.loop-index.owner.seen c.loop-index.index c.index-values-index.result (value_is g c) (filled g c)
@@ -48,22 +48,22 @@ has g c =
 pub slot_at-slot-requires : goal.slot_at-slot-requires
 slot_at-slot-requires g c =
     let at = (goal.at.slot_at-slot-requires g c).After-is_ready in
-    subst (λ (k : Layouts). HasSlot k c.types.result.now.declarations c.args.ty c.loop-index.index) (sym c.KIND.ensures)
-    (subst (λ (ts : TypeTable). HasSlot g.H.GcHeap.KIND ts.declarations c.args.ty c.loop-index.index) (sym c.types.ensures) (has g at))
+    subst (λ (k : Layouts). HasStorageSlot k c.types.result.now.declarations c.args.ty c.loop-index.index) (sym c.KIND.ensures)
+    (subst (λ (ts : TypeTable). HasStorageSlot g.H.GcHeap.KIND ts.declarations c.args.ty c.loop-index.index) (sym c.types.ensures) (has g at))
 
 pub stored_value-stored-requires-clause-rising : goal.stored_value-stored-requires-clause-rising
 stored_value-stored-requires-clause-rising g c =
     let at = (goal.at.stored_value-stored-requires-clause-rising g c).After-is_ready in
     let can = c.requires.can in
     let same = (filled g at).rewrites.rest in
-    subst AreRising (sym (c.owned.ensures ∙ ap (λ (v : OwnerView g.row.D.Denot). v.roots.owned) same)) can.to_fill.rising
+    subst AreOwnedRising (sym (c.owned.ensures ∙ ap (λ (v : OwnerView g.row.D.Denot). v.roots.owned) same)) can.to_fill.rising
 
 pub stored_value-stored-requires-clause-kept : goal.stored_value-stored-requires-clause-kept
 stored_value-stored-requires-clause-kept g c =
     let at = (goal.at.stored_value-stored-requires-clause-kept g c).After-is_ready in
     let can = c.requires.can in
     let same : record { scoped = c.scoped.result.now; owned = c.owned.result.now } ≡ handle_roots c.loop-index.owner.seen.roots = λ i. record { scoped = c.scoped.ensures i; owned = c.owned.ensures i } in
-    subst (λ (es : HandleRoots). IsKept (ids_of c.args.interned.now) es c.index-values-index.result) (sym same)
+    subst (λ (es : HandleRoots). CanBeKept (ids_of c.args.interned.now) es c.index-values-index.result) (sym same)
     (is_kept g.H.GcHeap.KIND (ids_of c.args.interned.now) c.args.values.now c.args.owner.now.seen c.args.gc_ref.now c.args.ty can.object can.shape can.count can.to_fill c.loop-index.owner.seen c.loop-index.index c.index-values-index.result (value_is g at) (filled g at)
     c.is_ready.ensures.heap c.is_ready.ensures.can)
 
@@ -108,7 +108,7 @@ loop-index-preserved g c = record {
         let stored = (goal.at.loop-index-preserved g c).After-stored_value-stored in
         fills-more g.H.GcHeap.KIND (ids_of c.args.interned.now) c.args.values.now c.args.owner.now.seen c.args.gc_ref.now c.args.ty object shape count f c.loop-index.owner.seen c.loop-index.index c.index-values-index.result (value_is g at)
         (c.loop-index.invariant.filled object shape count f) c.is_ready.ensures.heap c.is_ready.ensures.can c.stored_value-stored.result (kept_is g stored) c.stored_value-stored.ensures.small c.write_slot.new.owner.seen
-        (subst (λ (s : StorageSlot). WritesAt g.H.GcHeap.KIND c.loop-index.owner.seen c.write_slot.new.owner.seen c.args.gc_ref.now s.offset (slot_bytes s.storage (code_of c.stored_value-stored.result))) (slot_is g stored object shape count f) c.write_slot.ensures)
+        (subst (λ (s : StorageSlot). WritesAt g.H.GcHeap.KIND c.loop-index.owner.seen c.write_slot.new.owner.seen c.args.gc_ref.now s.offset (slot_bytes s.storage (kept_code c.stored_value-stored.result))) (slot_is g stored object shape count f) c.write_slot.ensures)
 
 pub returns : goal.returns
 returns g c object shape count f =

@@ -3,7 +3,7 @@ use Rattle.gc_view.specs.Heaps.{HeapObject}
 use Rattle.gc_owner.specs.declared.allocate.AllocateFault.{AllocateFault}
 use Rattle.gc_owner.specs.declared.allocate.AllocateFault.TheVariants as fault
 use Rattle.gc_owner.specs.Growing.{state_of}
-use Rattle.gc_owner.specs.Makes.{Allocates, Describes}
+use Rattle.gc_owner.specs.Makes.{AllocateAnswers, Describes}
 use Rattle.gc_values.specs.declared.faults.PlaceFault.{PlaceFault}
 use Rattle.gc_values.specs.Making.{AllocatesObject}
 use Rattle.gc_values.proofs.make.allocate_object.Given.{Over}
@@ -12,9 +12,9 @@ use Rattle.gc_values.proofs.make.allocate_object.Goals as goal
 
 -- what the owner answered
 answered : (g : Over) (c : After-allocate g) (o : HeapObject) (size : ℕ) → Describes g.H.GcHeap.KIND c.args.owner.now.seen c.args.description.now o size → (r : Result ℕ AllocateFault) → c.allocate.result ≡ r
-    → Allocates g.H.GcHeap.KIND o size (state_of c.args.owner.now.seen (g.L.ResourceLimiter.limits c.args.limiter.now)) (state_of c.allocate.new.self.seen (g.L.ResourceLimiter.limits c.allocate.new.limiter)) r
+    → AllocateAnswers g.H.GcHeap.KIND o size (state_of c.args.owner.now.seen (g.L.ResourceLimiter.limits c.args.limiter.now)) (state_of c.allocate.new.self.seen (g.L.ResourceLimiter.limits c.allocate.new.limiter)) r
 answered g c o size is r result_is =
-    subst (λ (x : Result ℕ AllocateFault). Allocates g.H.GcHeap.KIND o size (state_of c.args.owner.now.seen (g.L.ResourceLimiter.limits c.args.limiter.now)) (state_of c.allocate.new.self.seen (g.L.ResourceLimiter.limits c.allocate.new.limiter)) x) result_is
+    subst (λ (x : Result ℕ AllocateFault). AllocateAnswers g.H.GcHeap.KIND o size (state_of c.args.owner.now.seen (g.L.ResourceLimiter.limits c.args.limiter.now)) (state_of c.allocate.new.self.seen (g.L.ResourceLimiter.limits c.allocate.new.limiter)) x) result_is
     (c.allocate.ensures.allocated o size is)
 
 pub returns-in-Ok : goal.returns-in-Ok

@@ -5,7 +5,7 @@ use Rattle.gc_types.specs.declared.kind.Layouts.{Layouts}
 use Rattle.gc_view.specs.Heaps.{HeapObject}
 use Rattle.gc_view.specs.Slots.{shape_slots}
 use Rattle.gc_model.proofs.ObjectShapes.{shape_at}
-use Rattle.gc_values.specs.HeldSlots.{HasSlot}
+use Rattle.gc_values.specs.HeldSlots.{HasStorageSlot}
 use Rattle.gc_values.proofs.slot.slot_in.Given.{Over}
 use Rattle.gc_values.proofs.slot.slot_in.Goals.{After-type_index}
 use Rattle.gc_values.proofs.slot.slot_in.Goals as goal
@@ -18,8 +18,8 @@ pub slot_at-requires : goal.slot_at-requires
 slot_at-requires g c =
     let at = (goal.at.slot_at-requires g c).After-type_index in
     let has = c.requires.has in
-    subst (λ (k : Layouts). HasSlot k c.args.types.now.declarations c.type_index.result c.args.index) (sym c.KIND.ensures)
-    (subst (λ (ty : ℕ). HasSlot g.H.GcHeap.KIND c.args.types.now.declarations ty c.args.index) (sym (type_is g at has.object has.held)) has.has)
+    subst (λ (k : Layouts). HasStorageSlot k c.args.types.now.declarations c.type_index.result c.args.index) (sym c.KIND.ensures)
+    (subst (λ (ty : ℕ). HasStorageSlot g.H.GcHeap.KIND c.args.types.now.declarations ty c.args.index) (sym (type_is g at has.object has.held)) has.has)
 
 pub returns : goal.returns
 returns g c object held shape count slot declared is =

@@ -3,7 +3,7 @@ use Rattle.std.proofs.lemmas.Bool.{eqb-true}
 use Rattle.std.proofs.lemmas.List.{take_rest}
 use Rattle.gc_script.proofs.StandLemmas.{same_twice}
 use Rattle.gc_script.proofs.ResultLemmas.{on_any_err}
-use Rattle.gc_script.specs.Cutting.{EndsLine, Feeds, GoesOn, has_feed}
+use Rattle.gc_script.specs.Cutting.{EndsLine, Feeds, LineGoesOn, has_feed}
 use Rattle.gcsh_top.proofs.RunLemmas.{broke_from, ran_from}
 use Rattle.gcsh_top.proofs.PieceLemmas.{line_kept, no_bytes, piece_broken, piece_end, piece_longer, piece_more, piece_start, piece_unfed, whole_broken, whole_more}
 use Rattle.gcsh_top.proofs.run.run_lines.Goals as goal
@@ -68,11 +68,11 @@ loop-rest-preserved-then-is_ended g c = rw take_rest (record {
 pub loop-rest-preserved : goal.loop-rest-preserved
 loop-rest-preserved g c = rw take_rest (record {
   along = λ bytes s unfinished holds.
-      let fed : GoesOn c.loop-rest.cutter c.feed.new.self c.loop-rest.rest.now c.in_ok-taken.taken = subst (λ e. Feeds c.loop-rest.cutter c.feed.new.self c.loop-rest.rest.now c.in_ok-taken.taken e) c.if-is_ended.false c.in_ok-taken.ensures.fed in
+      let fed : LineGoesOn c.loop-rest.cutter c.feed.new.self c.loop-rest.rest.now c.in_ok-taken.taken = subst (λ e. Feeds c.loop-rest.cutter c.feed.new.self c.loop-rest.rest.now c.in_ok-taken.taken e) c.if-is_ended.false c.in_ok-taken.ensures.fed in
       piece_longer _ _ _ _ s (bytes ++ c.args.piece.now) c.loop-rest.rest.now _ _ _ _ _ _ (c.loop-rest.invariant.along bytes s unfinished holds) c.feed.new.self c.in_ok-taken.taken fed;
   unwritten = c.loop-rest.invariant.unwritten;
   plain = λ is _.
-      let fed : GoesOn c.loop-rest.cutter c.feed.new.self c.loop-rest.rest.now c.in_ok-taken.taken = subst (λ e. Feeds c.loop-rest.cutter c.feed.new.self c.loop-rest.rest.now c.in_ok-taken.taken e) c.if-is_ended.false c.in_ok-taken.ensures.fed in
+      let fed : LineGoesOn c.loop-rest.cutter c.feed.new.self c.loop-rest.rest.now c.in_ok-taken.taken = subst (λ e. Feeds c.loop-rest.cutter c.feed.new.self c.loop-rest.rest.now c.in_ok-taken.taken e) c.if-is_ended.false c.in_ok-taken.ensures.fed in
       c.loop-rest.invariant.plain is fed.plain;
   faults = c.loop-rest.invariant.faults;
   same = c.loop-rest.invariant.same;

@@ -1,5 +1,5 @@
 use Rattle.std.proofs.Common.{refl}
-use Rattle.gc_heap.specs.Heap.{IsArray, new_array, array_size}
+use Rattle.gc_heap.specs.Heap.{IsArrayKind, new_array, array_size}
 use Rattle.heap_client.specs.Made.{MadeArray}
 use Rattle.heap_client.proofs.StayLemmas.{given_stays, held_made}
 use Rattle.gc_heap.proofs.GivenLemmas.{can_give_back}
@@ -12,7 +12,7 @@ made g c = c.in-Ok.ensures.made
 pub dealloc_uninit_array-requires-clause-held : goal.dealloc_uninit_array-requires-clause-held
 dealloc_uninit_array-requires-clause-held g c =
     let m = made g (goal.at.dealloc_uninit_array-requires-clause-held g c).In-Ok in
-    can_give_back g.H.GcHeap.KIND (g.H.GcHeap.seen c.args.heap.now) (g.H.GcHeap.seen c.make_array.new.heap) c.in-Ok.array (array_size m.layout c.args.length) (new_array g.H.GcHeap.KIND c.args.ty c.args.length m.layout) IsArray
+    can_give_back g.H.GcHeap.KIND (g.H.GcHeap.seen c.args.heap.now) (g.H.GcHeap.seen c.make_array.new.heap) c.in-Ok.array (array_size m.layout c.args.length) (new_array g.H.GcHeap.KIND c.args.ty c.args.length m.layout) IsArrayKind
     refl (g.met.H.GcHeap.is_heap c.args.heap.now c.requires.sound) m.adds
 
 pub returns-in-Ok-clause-stays : goal.returns-in-Ok-clause-stays

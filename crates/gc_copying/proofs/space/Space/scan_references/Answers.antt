@@ -1,14 +1,14 @@
 use Rattle.std.proofs.Common.{ap, ◌∙◌, arith}
-use Rattle.gc_copying.specs.CopyWords.{offsets_at}
+use Rattle.gc_copying.specs.CopyWords.{copying_offsets_at}
 use Rattle.gc_copying.proofs.FormLemmas.{header_inside, form_is, can_as, scans_as, ticks_as, places_by_bitmap, places_by_array, places_by_type}
 use Rattle.gc_copying.proofs.space.Space.scan_references.Goals as goal
 
 pub read_header-header-requires : goal.read_header-header-requires
-read_header-header-requires g c = omega (arith, header_inside c.args.self.now c.args.copy (offsets_at c.args.types.now.declarations c.args.self.now.memory c.args.copy) c.requires)
+read_header-header-requires g c = omega (arith, header_inside c.args.self.now c.args.copy (copying_offsets_at c.args.types.now.declarations c.args.self.now.memory c.args.copy) c.requires)
 
 pub decode-requires : goal.decode-requires
 decode-requires g c =
-    form_is c.args.self.now c.args.copy (offsets_at c.args.types.now.declarations c.args.self.now.memory c.args.copy) c.kind_word.result c.requires
+    form_is c.args.self.now c.args.copy (copying_offsets_at c.args.types.now.declarations c.args.self.now.memory c.args.copy) c.kind_word.result c.requires
     (c.kind_word.ensures ∙ ap (λ h. h.kind_word) c.read_header-header.ensures)
 
 pub scan_bitmap-requires-clause-left : goal.scan_bitmap-requires-clause-left

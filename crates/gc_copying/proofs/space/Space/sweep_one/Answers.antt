@@ -1,7 +1,7 @@
 use Rattle.std.proofs.Common.{ℕ, ◌≡◌, ◌+◌, refl, sym, ap, subst, ◌∙◌, arith}
 use Rattle.gc_view.specs.Bytes.{put_u32}
 use Rattle.gc_memory.proofs.WordLemmas.{word-is}
-use Rattle.gc_copying.specs.CopyWords.{forwarding, host_word}
+use Rattle.gc_copying.specs.CopyWords.{forwarding, copying_host_word}
 use Rattle.gc_heap.specs.FreedHosts.{FreesHost}
 use Rattle.gc_copying.proofs.MidLemmas.{no_both}
 use Rattle.gc_copying.proofs.ForwardLemmas.{flag_read}
@@ -34,6 +34,6 @@ returns-else-read_u32-eq1-clause-listed g c one =
 
 pub returns-else-read_u32-eq1-clause-freed : goal.returns-else-read_u32-eq1-clause-freed
 returns-else-read_u32-eq1-clause-freed g c _ =
-    let at : c.read_u32-else-read_u32-eq1.result ≡ host_word c.args.self.now.memory c.args.place =
+    let at : c.read_u32-else-read_u32-eq1.result ≡ copying_host_word c.args.self.now.memory c.args.place =
     c.read_u32-else-read_u32-eq1.ensures ∙ sym (word-is c.args.self.now.memory (c.args.place + 16)) in
     (subst (λ (w : ℕ). FreesHost _ c.args.hosts.now.entries c.free_host.new.hosts.entries w) at c.free_host.ensures.frees, (refl, refl))

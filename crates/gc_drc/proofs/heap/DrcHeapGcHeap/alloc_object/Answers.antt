@@ -4,13 +4,13 @@ use Rattle.gc_types.specs.declared.kind.VMGcKind.{VMGcKind}
 use Rattle.gc_refs.specs.Header.{IsOfKind}
 use Rattle.gc_heap.specs.Heap.{Allocated}
 use Rattle.gc_heap.specs.Making.{made}
-use Rattle.gc_drc.specs.Content.{seen_in}
-use Rattle.gc_drc.specs.States.{seen_of}
+use Rattle.gc_drc.specs.Content.{counting_seen_in}
+use Rattle.gc_drc.specs.States.{counting_seen_of}
 use Rattle.gc_drc.proofs.heap.DrcHeapGcHeap.alloc_object.Goals as goal
 
 pub returns-clause-allocated : goal.returns-clause-allocated
 returns-clause-allocated c =
     let h = c.args.self.now in
     subst (λ b. (kind : VMGcKind) → IsOfKind kind c.args.header.kind_word
-    → Allocated Counting (seen_of h.scopes b) (seen_in h.scopes c.make.new.self) (made Counting kind c.args.header c.args.first c.args.size) c.args.size c.make.result) (sym c.in-Attached.is)
-    (c.make.ensures.allocated h.scopes)
+    → Allocated Counting (counting_seen_of h.scopes b) (counting_seen_in h.scopes c.allocate.new.self) (made Counting kind c.args.header c.args.first c.args.size) c.args.size c.allocate.result) (sym c.in-Attached.is)
+    (c.allocate.ensures.allocated h.scopes)

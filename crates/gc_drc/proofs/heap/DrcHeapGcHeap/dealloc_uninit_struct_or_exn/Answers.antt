@@ -3,11 +3,11 @@ use Rattle.std.specs.FinMap as finite
 use Rattle.gc_types.specs.declared.kind.Layouts.TheVariants.{Counting}
 use Rattle.gc_view.specs.Heaps.{HeapObject}
 use Rattle.gc_heap.specs.Heap.{given_back, CanGiveBack, IsStructOrExn}
-use Rattle.gc_drc.specs.Content.{seen_in}
-use Rattle.gc_drc.specs.States.{seen_of, IsBacked}
+use Rattle.gc_drc.specs.Content.{counting_seen_in}
+use Rattle.gc_drc.specs.States.{counting_seen_of, IsCountingBacked}
 use Rattle.gc_drc.proofs.BackingLemmas.{nothing_held}
 use Rattle.gc_drc.proofs.heap.DrcHeapGcHeap.dealloc_uninit_struct_or_exn.Goals as goal
-use Rattle.gc_drc.specs.Giving.{CanGive, Gives}
+use Rattle.gc_drc.specs.Giving.{IsUnlisted, GivesBack}
 use Rattle.gc_drc.proofs.GiveLemmas.{can_give}
 
 pub unreachable-requires : goal.unreachable-requires
@@ -18,9 +18,9 @@ unreachable-requires c =
 pub give_back-requires : goal.give_back-requires
 give_back-requires c =
     let h = c.args.self.now in
-    subst (CanGive c.in-Attached.space) (sym c.as_raw_u32.ensures.value)
-    (can_give c.in-Attached.space h.scopes c.args.gc_ref (subst IsBacked c.in-Attached.is c.requires.sound.backed)
-    (subst (λ b. CanGiveBack (seen_of h.scopes b) c.args.gc_ref IsStructOrExn) c.in-Attached.is c.requires.held))
+    subst (IsUnlisted c.in-Attached.space) (sym c.as_raw_u32.ensures.value)
+    (can_give c.in-Attached.space h.scopes c.args.gc_ref (subst IsCountingBacked c.in-Attached.is c.requires.sound.backed)
+    (subst (λ b. CanGiveBack (counting_seen_of h.scopes b) c.args.gc_ref IsStructOrExn) c.in-Attached.is c.requires.held))
 
 pub returns-clause-sound : goal.returns-clause-sound
 returns-clause-sound c = record { backed = c.give_back.ensures.sound; scopes = c.requires.sound.scopes }
@@ -28,6 +28,6 @@ returns-clause-sound c = record { backed = c.give_back.ensures.sound; scopes = c
 pub returns-clause-seen : goal.returns-clause-seen
 returns-clause-seen c =
     let h = c.args.self.now in
-    let gave = subst (λ x. Gives c.in-Attached.space c.give_back.new.self x) c.as_raw_u32.ensures.value c.give_back.ensures in
-    subst (λ b. (object : HeapObject) → finite.get (seen_of h.scopes b).content c.args.gc_ref ≡ Some object → seen_in h.scopes c.give_back.new.self ≡ given_back Counting (seen_of h.scopes b) c.args.gc_ref object)
+    let gave = subst (λ x. GivesBack c.in-Attached.space c.give_back.new.self x) c.as_raw_u32.ensures.value c.give_back.ensures in
+    subst (λ b. (object : HeapObject) → finite.get (counting_seen_of h.scopes b).content c.args.gc_ref ≡ Some object → counting_seen_in h.scopes c.give_back.new.self ≡ given_back Counting (counting_seen_of h.scopes b) c.args.gc_ref object)
     (sym c.in-Attached.is) (gave.seen h.scopes)

@@ -1,5 +1,5 @@
 use Rattle.std.proofs.Common.{sym, ap, subst, arith}
-use Rattle.gc_drc.specs.States.{IsBacked, seen_of}
+use Rattle.gc_drc.specs.States.{IsCountingBacked, counting_seen_of}
 use Rattle.gc_drc.proofs.BackingLemmas.{attached, given_size}
 use Rattle.gc_drc.proofs.heap.DrcHeapGcHeap.detach.Goals as goal
 
@@ -7,10 +7,10 @@ pub detach-requires : goal.detach-requires
 detach-requires c = attached c.args.self.now.scopes c.args.self.now.backing c.requires.attached
 
 pub returns-clause-sound : goal.returns-clause-sound
-returns-clause-sound c = record { backed = subst IsBacked (sym c.detach.ensures.detached) tt; scopes = omega arith }
+returns-clause-sound c = record { backed = subst IsCountingBacked (sym c.detach.ensures.detached) tt; scopes = omega arith }
 
 pub returns-clause-seen : goal.returns-clause-seen
-returns-clause-seen c = ap (seen_of 0) c.detach.ensures.detached
+returns-clause-seen c = ap (counting_seen_of 0) c.detach.ensures.detached
 
 pub returns-clause-size : goal.returns-clause-size
 returns-clause-size c = given_size c.args.self.now.scopes c.args.self.now.backing c.detach.result c.detach.ensures.given

@@ -2,24 +2,24 @@ use Rattle.std.proofs.Common.{◌≡◌, Some, sym, ap, subst, ◌∙◌}
 use Rattle.std.specs.FinMap as finite
 use Rattle.gc_view.specs.Heaps.{HeapView, detached_in}
 use Rattle.gc_heap.specs.Barriers.{ShowsCount}
-use Rattle.gc_drc.specs.States.{seen_of, IsBacked}
+use Rattle.gc_drc.specs.States.{counting_seen_of, IsCountingBacked}
 use Rattle.gc_drc.proofs.ReadLemmas.{shows_count}
 use Rattle.gc_drc.proofs.BackingLemmas.{held_lies, host_number, not_attached}
 use Rattle.gc_drc.proofs.heap.DrcHeapGcHeap.memory.Goals as goal
 
 pub returns-in-Attached-clause-attached : goal.returns-in-Attached-clause-attached
-returns-in-Attached-clause-attached c = ap (λ b. (seen_of c.args.self.now.scopes b).attached) c.in-Attached.is
+returns-in-Attached-clause-attached c = ap (λ b. (counting_seen_of c.args.self.now.scopes b).attached) c.in-Attached.is
 
 pub returns-in-Attached-clause-lent : goal.returns-in-Attached-clause-lent
 returns-in-Attached-clause-lent c = λ sound.
     let h = c.args.self.now in
     record {
-      size = sym (ap (λ b. (seen_of h.scopes b).capacity) c.in-Attached.is);
+      size = sym (ap (λ b. (counting_seen_of h.scopes b).capacity) c.in-Attached.is);
       objects = λ place object held. held_lies h c.in-Attached.space place object c.in-Attached.is sound held;
       hosts = λ place object held kind. host_number h c.in-Attached.space place object c.in-Attached.is sound held kind;
       counts = λ place n.
-          subst (λ b. finite.get (seen_of h.scopes b).counts.counted place ≡ Some n → ShowsCount (seen_of h.scopes b) c.in-Attached.space.memory place n) (sym c.in-Attached.is)
-          (shows_count c.in-Attached.space h.scopes place n (subst IsBacked c.in-Attached.is sound.backed));
+          subst (λ b. finite.get (counting_seen_of h.scopes b).counts.counted place ≡ Some n → ShowsCount (counting_seen_of h.scopes b) c.in-Attached.space.memory place n) (sym c.in-Attached.is)
+          (shows_count c.in-Attached.space h.scopes place n (subst IsCountingBacked c.in-Attached.is sound.backed));
     }
 
 pub returns-in_default-clause-attached : goal.returns-in_default-clause-attached

@@ -3,8 +3,8 @@ use Rattle.std.specs.FinMap as finite
 use Rattle.gc_types.specs.declared.kind.Layouts.TheVariants.{Counting}
 use Rattle.gc_view.specs.Heaps.{HeapObject}
 use Rattle.gc_heap.specs.Heap.{put_object, with_data}
-use Rattle.gc_drc.specs.Content.{seen_in}
-use Rattle.gc_drc.specs.States.{seen_of}
+use Rattle.gc_drc.specs.Content.{counting_seen_in}
+use Rattle.gc_drc.specs.States.{counting_seen_of}
 use Rattle.gc_drc.proofs.BackingLemmas.{nothing_held}
 use Rattle.gc_drc.proofs.heap.DrcHeapGcHeap.write_object_data.Goals as goal
 
@@ -16,6 +16,6 @@ unreachable-requires c =
 pub returns-clause-seen : goal.returns-clause-seen
 returns-clause-seen c =
     let h = c.args.self.now in
-    subst (λ b. (object : HeapObject) → finite.get (seen_of h.scopes b).content c.args.r.now ≡ Some object
-    → seen_in h.scopes c.write_data.new.self ≡ put_object (seen_of h.scopes b) c.args.r.now (with_data Counting object c.args.offset c.args.bytes.now)) (sym c.in-Attached.is)
+    subst (λ b. (object : HeapObject) → finite.get (counting_seen_of h.scopes b).content c.args.r.now ≡ Some object
+    → counting_seen_in h.scopes c.write_data.new.self ≡ put_object (counting_seen_of h.scopes b) c.args.r.now (with_data Counting object c.args.offset c.args.bytes.now)) (sym c.in-Attached.is)
     (c.write_data.ensures.seen h.scopes)

@@ -1,8 +1,8 @@
 use Rattle.std.proofs.Common.{◌+◌, ◌-◌, sym, ap, subst, ◌∙◌, arith}
 use Rattle.gc_memory.specs.Words.{word, put_u64}
 use Rattle.gc_drc.specs.declared.space.CountedSpace.{CountedSpace}
-use Rattle.gc_drc.specs.View.{Holds}
-use Rattle.gc_drc.specs.Operations.{Tends, exposed}
+use Rattle.gc_drc.specs.View.{HoldsBlocks}
+use Rattle.gc_drc.specs.Operations.{Tends, counting_exposed}
 use Rattle.gc_drc.proofs.BarrierLemmas.{show_holds, show_again_holds, shown_flag, not_shown_flag, room_at, on_list, off_list}
 use Rattle.gc_drc.proofs.space.CountedSpace.expose.Goals as goal
 
@@ -26,7 +26,7 @@ push_shown-requires-clause-apart c =
 
 pub returns-then-is_shown-clause-holds : goal.returns-then-is_shown-clause-holds
 returns-then-is_shown-clause-holds c = λ v h i named.
-    subst (Holds (exposed v c.args.place)) (sym (c.set_count.ensures ∙ ap (λ n. record c.args.self.now { memory = put_u64 c.args.self.now.memory (c.args.place + 8) (n - 1) }) c.count-count.ensures))
+    subst (HoldsBlocks (counting_exposed v c.args.place)) (sym (c.set_count.ensures ∙ ap (λ n. record c.args.self.now { memory = put_u64 c.args.self.now.memory (c.args.place + 8) (n - 1) }) c.count-count.ensures))
     (show_again_holds v c.args.self.now c.args.place h i named (on_list v c.args.self.now c.args.place h i (sym c.is_shown.ensures ∙ c.if-is_shown.true)) (let is = c.count-count.ensures in omega arith)).0
 
 pub returns-then-is_shown-clause-tends : goal.returns-then-is_shown-clause-tends
@@ -39,5 +39,5 @@ returns-then-is_shown-clause-tends c =
 
 pub returns-else-is_shown-clause-holds : goal.returns-else-is_shown-clause-holds
 returns-else-is_shown-clause-holds c = λ v h i named.
-    subst (Holds (exposed v c.args.place)) (sym c.push_shown.ensures.rest)
+    subst (HoldsBlocks (counting_exposed v c.args.place)) (sym c.push_shown.ensures.rest)
     (show_holds v c.args.self.now c.push_shown.new.self.memory c.args.place h i named (off_list v c.args.self.now c.args.place h i (sym c.is_shown.ensures ∙ c.if-is_shown.false)) c.push_shown.ensures.sets)

@@ -3,7 +3,7 @@ use Rattle.std.specs.Prelude.{Contains}
 use Rattle.std.specs.Int.NonZero.{non_zero_u32_get}
 use Rattle.gc_free.specs.Runs.{run}
 use Rattle.gc_free.specs.Space.{give}
-use Rattle.gc_drc.specs.Layout.{block_of, size_at}
+use Rattle.gc_drc.specs.Layout.{block_of, counting_size_at}
 use Rattle.gc_drc.proofs.GiveLemmas.{block_at_place, gives}
 use Rattle.gc_drc.proofs.space.CountedSpace.give_back.Goals as goal
 
@@ -12,7 +12,7 @@ size-requires c = (block_at_place c.args.self.now c.args.place c.requires).room
 
 pub overflow_cast-block : goal.overflow_cast-block
 overflow_cast-block c =
-    let is : c.block_of-block.result ≡ block_of (size_at c.args.self.now.memory c.args.place) = c.block_of-block.ensures ∙ ap block_of c.size.ensures in
+    let is : c.block_of-block.result ≡ block_of (counting_size_at c.args.self.now.memory c.args.place) = c.block_of-block.ensures ∙ ap block_of c.size.ensures in
     let fits = (block_at_place c.args.self.now c.args.place c.requires).fits in omega (arith, is, fits)
 
 pub unreachable-requires : goal.unreachable-requires
@@ -28,7 +28,7 @@ dealloc_fast-requires c =
 
 pub overflow_sub-self-2 : goal.overflow_sub-self-2
 overflow_sub-self-2 c =
-    let is : c.block_of-block.result ≡ block_of (size_at c.args.self.now.memory c.args.place) = c.block_of-block.ensures ∙ ap block_of c.size.ensures in
+    let is : c.block_of-block.result ≡ block_of (counting_size_at c.args.self.now.memory c.args.place) = c.block_of-block.ensures ∙ ap block_of c.size.ensures in
     let enough = (block_at_place c.args.self.now c.args.place c.requires).enough in omega (arith, is, enough)
 
 pub returns : goal.returns

@@ -1,5 +1,5 @@
 use Rattle.std.proofs.Common.{ℕ, List, ◌∷◌, ◌≡◌, ◌+◌, ◌<◌, drop, length, sym, ap, ◌∙◌, subst, arith}
-use Rattle.gc_drc.specs.CollectTrace.{Traces, root_words}
+use Rattle.gc_drc.specs.CollectTrace.{Traces, words_in_roots}
 use Rattle.gc_drc.proofs.TraceMemory.{words_step, words_end}
 use Rattle.gc_drc.proofs.space.CountedSpace.mark_roots.Goals as goal
 
@@ -8,13 +8,13 @@ visit-requires c =
     let roots = c.args.roots.now.roots in
     let i = c.loop-index.index in
     let inside : i < length roots = omega (arith, c.loop-index-test.true, c.len-index-end.ensures) in
-    let e : root_words (drop i roots) ≡ c.as_raw_u32-word.result ∷ root_words (drop (i + 1) roots) =
-    words_step roots i inside ∙ ap (λ (w : ℕ). w ∷ root_words (drop (i + 1) roots)) (sym c.word_at.ensures ∙ sym c.as_raw_u32-word.ensures.value) in (
+    let e : words_in_roots (drop i roots) ≡ c.as_raw_u32-word.result ∷ words_in_roots (drop (i + 1) roots) =
+    words_step roots i inside ∙ ap (λ (w : ℕ). w ∷ words_in_roots (drop (i + 1) roots)) (sym c.word_at.ensures ∙ sym c.as_raw_u32-word.ensures.value) in (
       c.requires.0,
       (
         c.requires.1.0,
         (
-          root_words (drop (i + 1) roots),
+          words_in_roots (drop (i + 1) roots),
           subst (λ (ws : List ℕ). Traces c.requires.0 c.requires.1.0 c.loop-index.self c.loop-index.reached.head c.loop-index.reached.fresh ws) e (c.loop-index.invariant c.requires.0 c.requires.1.0 c.requires.1.1),
         ),
       ),
@@ -25,9 +25,9 @@ loop-index-preserved c o unscanned t =
     let roots = c.args.roots.now.roots in
     let i = c.loop-index.index in
     let inside : i < length roots = omega (arith, c.loop-index-test.true, c.len-index-end.ensures) in
-    let e : root_words (drop i roots) ≡ c.as_raw_u32-word.result ∷ root_words (drop (i + 1) roots) =
-    words_step roots i inside ∙ ap (λ (w : ℕ). w ∷ root_words (drop (i + 1) roots)) (sym c.word_at.ensures ∙ sym c.as_raw_u32-word.ensures.value) in
-    c.visit.ensures o unscanned (root_words (drop (i + 1) roots)) (subst (λ (ws : List ℕ). Traces o unscanned c.loop-index.self c.loop-index.reached.head c.loop-index.reached.fresh ws) e (c.loop-index.invariant o unscanned t))
+    let e : words_in_roots (drop i roots) ≡ c.as_raw_u32-word.result ∷ words_in_roots (drop (i + 1) roots) =
+    words_step roots i inside ∙ ap (λ (w : ℕ). w ∷ words_in_roots (drop (i + 1) roots)) (sym c.word_at.ensures ∙ sym c.as_raw_u32-word.ensures.value) in
+    c.visit.ensures o unscanned (words_in_roots (drop (i + 1) roots)) (subst (λ (ws : List ℕ). Traces o unscanned c.loop-index.self c.loop-index.reached.head c.loop-index.reached.fresh ws) e (c.loop-index.invariant o unscanned t))
 
 pub returns : goal.returns
 returns c o unscanned t =

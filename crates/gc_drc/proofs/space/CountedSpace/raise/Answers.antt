@@ -1,8 +1,8 @@
 use Rattle.std.proofs.Common.{◌≡◌, ◌+◌, sym, ap, subst, ◌∙◌, arith}
 use Rattle.gc_memory.specs.Words.{put_u64}
 use Rattle.gc_drc.specs.declared.space.CountedSpace.{CountedSpace}
-use Rattle.gc_drc.specs.View.{Holds, count_of}
-use Rattle.gc_drc.specs.Operations.{Tends, raised}
+use Rattle.gc_drc.specs.View.{HoldsBlocks, count_of}
+use Rattle.gc_drc.specs.Operations.{Tends, counting_raised}
 use Rattle.gc_drc.proofs.BarrierLemmas.{raise_holds, room_at}
 use Rattle.gc_drc.proofs.space.CountedSpace.raise.Goals as goal
 
@@ -23,7 +23,7 @@ returns-clause-holds c = λ v h i.
     let same : count_of v c.args.place ≡ count_of c.requires.view c.args.place =
     sym (h.objects c.args.place i).count_is ∙ (c.requires.holds.objects c.args.place c.requires.place).count_is in
     let below = c.requires.below in
-    subst (Holds (raised v c.args.place)) (sym (c.set_count.ensures ∙ ap (λ n. record c.args.self.now { memory = put_u64 c.args.self.now.memory (c.args.place + 8) (n + 1) }) c.count-count.ensures))
+    subst (HoldsBlocks (counting_raised v c.args.place)) (sym (c.set_count.ensures ∙ ap (λ n. record c.args.self.now { memory = put_u64 c.args.self.now.memory (c.args.place + 8) (n + 1) }) c.count-count.ensures))
     (raise_holds v c.args.self.now c.args.place h i (omega arith)).0
 
 pub returns-clause-tends : goal.returns-clause-tends

@@ -6,7 +6,7 @@ use Rattle.gc_memory.specs.Words.{word}
 use Rattle.gc_view.specs.Bytes.{put_u32}
 use Rattle.gc_view.specs.Heaps.{HeapObject}
 use Rattle.gc_heap.specs.Heap.{with_spare_of, put_object}
-use Rattle.gc_drc.specs.Content.{seen_in}
+use Rattle.gc_drc.specs.Content.{counting_seen_in}
 use Rattle.gc_drc.proofs.ReadLemmas.{HeldAt, held_at}
 use Rattle.gc_drc.proofs.SeenLemmas.{even_held, is_place}
 use Rattle.gc_drc.proofs.WriteLemmas.{writes_header, Rewrites, rewrites}
@@ -65,4 +65,4 @@ pub returns-clause-held : goal.returns-clause-held
 returns-clause-held c = λ scopes object held.
     let w = written c in
     let h = held_at c.args.self.now 0 c.args.gc_ref.now object c.requires.sound held in
-    (refl, w.1.1.seen scopes ∙ ap (λ y. put_object (seen_in scopes c.args.self.now) c.args.gc_ref.now (with_spare_of Counting y (c.args.header.kind_word % spare_bits))) (w.1.0.is ∙ sym h.is))
+    (refl, w.1.1.seen scopes ∙ ap (λ y. put_object (counting_seen_in scopes c.args.self.now) c.args.gc_ref.now (with_spare_of Counting y (c.args.header.kind_word % spare_bits))) (w.1.0.is ∙ sym h.is))

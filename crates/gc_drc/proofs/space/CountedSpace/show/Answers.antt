@@ -1,8 +1,8 @@
 use Rattle.std.proofs.Common.{◌<◌, sym, subst}
 use Rattle.gc_memory.specs.Lists.{In}
 use Rattle.gc_heap.specs.Barriers as barrier
-use Rattle.gc_drc.specs.View.{View, Holds}
-use Rattle.gc_drc.specs.Operations.{CanLower, Tends, exposed}
+use Rattle.gc_drc.specs.View.{View, HoldsBlocks}
+use Rattle.gc_drc.specs.Operations.{CanLower, Tends, counting_exposed}
 use Rattle.gc_drc.proofs.SeenLemmas.{can_lower, shows, number_exposed, is_number, is_place, Seen}
 use Rattle.gc_drc.proofs.space.CountedSpace.show.Goals as goal
 use Rattle.gc_drc.proofs.space.CountedSpace.show.Goals.{After-expose}
@@ -16,7 +16,7 @@ after : (c : After-expose) → Seen c.args.self.now c.expose.new.self (λ h. bar
 after c =
     let even = is_place c.is_i31.result c.args.gc_ref.now c.is_i31.ensures c.if-not-is_i31.true in
     shows c.args.self.now c.expose.new.self c.requires.named.0 c.args.gc_ref.now c.requires.sound c.requires.named.1 even
-    (subst (λ x. (v : View) → Holds v c.args.self.now → In x v.places → 0 < v.counted x → Holds (exposed v x) c.expose.new.self) c.as_raw_u32.ensures.value c.expose.ensures.holds)
+    (subst (λ x. (v : View) → HoldsBlocks v c.args.self.now → In x v.places → 0 < v.counted x → HoldsBlocks (counting_exposed v x) c.expose.new.self) c.as_raw_u32.ensures.value c.expose.ensures.holds)
     (subst (Tends c.args.self.now.memory c.expose.new.self.memory) c.as_raw_u32.ensures.value c.expose.ensures.tends) c.expose.ensures.free
 
 pub returns-then-not-is_i31-clause-sound : goal.returns-then-not-is_i31-clause-sound

@@ -1,8 +1,8 @@
 use Rattle.std.proofs.Common.{◌<◌, sym, subst}
 use Rattle.gc_memory.specs.Lists.{In}
 use Rattle.gc_heap.specs.Barriers as barrier
-use Rattle.gc_drc.specs.View.{View, Holds}
-use Rattle.gc_drc.specs.Operations.{CanLower, Tends, lowered}
+use Rattle.gc_drc.specs.View.{View, HoldsBlocks}
+use Rattle.gc_drc.specs.Operations.{CanLower, Tends, counting_lowered}
 use Rattle.gc_drc.proofs.SeenLemmas.{can_lower, unnames, number_dropped, is_number, is_place, Seen}
 use Rattle.gc_drc.proofs.space.CountedSpace.unname.Goals as goal
 use Rattle.gc_drc.proofs.space.CountedSpace.unname.Goals.{After-lower}
@@ -16,7 +16,7 @@ after : (c : After-lower) → Seen c.args.self.now c.lower.new.self (λ h. barri
 after c =
     let even = is_place c.is_i31.result c.args.gc_ref.now c.is_i31.ensures c.if-not-is_i31.true in
     unnames c.args.self.now c.lower.new.self c.requires.named.0 c.args.gc_ref.now c.requires.sound c.requires.named.1 even
-    (subst (λ x. (v : View) → Holds v c.args.self.now → In x v.places → 0 < v.counted x → Holds (lowered v x) c.lower.new.self) c.as_raw_u32.ensures.value c.lower.ensures.holds)
+    (subst (λ x. (v : View) → HoldsBlocks v c.args.self.now → In x v.places → 0 < v.counted x → HoldsBlocks (counting_lowered v x) c.lower.new.self) c.as_raw_u32.ensures.value c.lower.ensures.holds)
     (subst (Tends c.args.self.now.memory c.lower.new.self.memory) c.as_raw_u32.ensures.value c.lower.ensures.tends) c.lower.ensures.free
 
 pub returns-then-not-is_i31-clause-sound : goal.returns-then-not-is_i31-clause-sound

@@ -2,8 +2,8 @@ use Rattle.std.proofs.Common.{◌≡◌, ◌+◌, length, refl, sym, ap, subst, 
 use Rattle.gc_types.specs.declared.kind.Layouts.TheVariants.{Counting}
 use Rattle.gc_view.specs.Bytes.{put_bytes}
 use Rattle.gc_heap.specs.Heap.{with_data, put_object}
-use Rattle.gc_drc.specs.Layout.{object_at}
-use Rattle.gc_drc.specs.Content.{seen_in}
+use Rattle.gc_drc.specs.Layout.{counting_object_at}
+use Rattle.gc_drc.specs.Content.{counting_seen_in}
 use Rattle.gc_drc.proofs.ReadLemmas.{held_at}
 use Rattle.gc_drc.proofs.WriteLemmas.{writable, writes_data, Rewrites, rewrites}
 use Rattle.gc_drc.proofs.space.CountedSpace.write_data.Goals as goal
@@ -16,7 +16,7 @@ write_bytes-requires c =
     let inside = w.held.inside in
     omega (arith, c.as_raw_u32.ensures.value)
 
-written : (c : After-write_bytes) → Rewrites c.args.self.now (record c.args.self.now { memory = c.write_bytes.new.self }) c.args.gc_ref.now (with_data Counting (object_at c.args.self.now.memory c.args.gc_ref.now) c.args.offset c.args.bytes.now)
+written : (c : After-write_bytes) → Rewrites c.args.self.now (record c.args.self.now { memory = c.write_bytes.new.self }) c.args.gc_ref.now (with_data Counting (counting_object_at c.args.self.now.memory c.args.gc_ref.now) c.args.offset c.args.bytes.now)
 written c =
     let s = c.args.self.now in
     let w = writable s 0 c.args.gc_ref.now c.args.offset (length c.args.bytes.now) c.requires.sound c.requires.inside in
@@ -29,5 +29,5 @@ returns-clause-sound c = (written c).sound
 
 pub returns-clause-seen : goal.returns-clause-seen
 returns-clause-seen c = λ scopes object held.
-    subst (λ o. seen_in scopes (record c.args.self.now { memory = c.write_bytes.new.self }) ≡ put_object (seen_in scopes c.args.self.now) c.args.gc_ref.now (with_data Counting o c.args.offset c.args.bytes.now))
+    subst (λ o. counting_seen_in scopes (record c.args.self.now { memory = c.write_bytes.new.self }) ≡ put_object (counting_seen_in scopes c.args.self.now) c.args.gc_ref.now (with_data Counting o c.args.offset c.args.bytes.now))
     (sym (held_at c.args.self.now 0 c.args.gc_ref.now object c.requires.sound held).is) ((written c).seen scopes)

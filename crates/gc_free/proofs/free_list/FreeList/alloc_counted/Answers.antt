@@ -1,6 +1,6 @@
 use Rattle.std.proofs.Common.{arith, ◌≤◌, ◌≡◌, ◌+◌, ap, ◌∙◌, refl, length}
 use Rattle.gc_free.specs.Space.{Space, free_runs, take}
-use Rattle.gc_free.specs.Kept.{IsKept}
+use Rattle.gc_free.specs.Kept.{KeepsRuns}
 use Rattle.gc_free.specs.Placed.{place_in, with_current}
 use Rattle.gc_free.proofs.Costs.{IsSearched-none}
 use Rattle.gc_free.proofs.PlacedRuns.{place_kept, after_none, after_some, non_zero, non_zero_aligned, blocks_fit}
@@ -20,7 +20,7 @@ pub place-placed-requires-clause-spread : goal.place-placed-requires-clause-spre
 place-placed-requires-clause-spread g c =
     let s : Space = record { capacity = c.self.inside.capacity; held = c.self.inside.held.blocks; current = c.self.inside.current } in
     let runs = c.reserve.new.self.runs in
-    let kept : IsKept s runs c.self.inside.others.room c.self.inside.blocks = rw c.reserve.ensures.runs c.self.invariant in
+    let kept : KeepsRuns s runs c.self.inside.others.room c.self.inside.blocks = rw c.reserve.ensures.runs c.self.invariant in
     let grown : c.self.inside.others.room ≤ c.reserve.new.self.room = c.reserve.ensures.grown in
     let enough : c.self.inside.blocks + 2 ≤ c.reserve.new.self.room = c.in_ok-reserve.ensures.ok in
     let k = place_kept c.args.alloc_size s runs c.self.inside.others.room c.reserve.new.self.room c.self.inside.blocks kept grown c.requires.whole c.requires.some enough in
@@ -30,7 +30,7 @@ pub place-placed-requires-clause-room : goal.place-placed-requires-clause-room
 place-placed-requires-clause-room g c =
     let s : Space = record { capacity = c.self.inside.capacity; held = c.self.inside.held.blocks; current = c.self.inside.current } in
     let runs = c.reserve.new.self.runs in
-    let kept : IsKept s runs c.self.inside.others.room c.self.inside.blocks = rw c.reserve.ensures.runs c.self.invariant in
+    let kept : KeepsRuns s runs c.self.inside.others.room c.self.inside.blocks = rw c.reserve.ensures.runs c.self.invariant in
     let grown : c.self.inside.others.room ≤ c.reserve.new.self.room = c.reserve.ensures.grown in
     let enough : c.self.inside.blocks + 2 ≤ c.reserve.new.self.room = c.in_ok-reserve.ensures.ok in
     let k = place_kept c.args.alloc_size s runs c.self.inside.others.room c.reserve.new.self.room c.self.inside.blocks kept grown c.requires.whole c.requires.some enough in
@@ -40,7 +40,7 @@ pub place-placed-requires-clause-fits : goal.place-placed-requires-clause-fits
 place-placed-requires-clause-fits g c =
     let s : Space = record { capacity = c.self.inside.capacity; held = c.self.inside.held.blocks; current = c.self.inside.current } in
     let runs = c.reserve.new.self.runs in
-    let kept : IsKept s runs c.self.inside.others.room c.self.inside.blocks = rw c.reserve.ensures.runs c.self.invariant in
+    let kept : KeepsRuns s runs c.self.inside.others.room c.self.inside.blocks = rw c.reserve.ensures.runs c.self.invariant in
     let grown : c.self.inside.others.room ≤ c.reserve.new.self.room = c.reserve.ensures.grown in
     let enough : c.self.inside.blocks + 2 ≤ c.reserve.new.self.room = c.in_ok-reserve.ensures.ok in
     let k = place_kept c.args.alloc_size s runs c.self.inside.others.room c.reserve.new.self.room c.self.inside.blocks kept grown c.requires.whole c.requires.some enough in
@@ -50,7 +50,7 @@ pub invariant_of-self-in_default : goal.invariant_of-self-in_default
 invariant_of-self-in_default g c =
     let s : Space = record { capacity = c.self.inside.capacity; held = c.self.inside.held.blocks; current = c.self.inside.current } in
     let runs = c.reserve.new.self.runs in
-    let kept : IsKept s runs c.self.inside.others.room c.self.inside.blocks = rw c.reserve.ensures.runs c.self.invariant in
+    let kept : KeepsRuns s runs c.self.inside.others.room c.self.inside.blocks = rw c.reserve.ensures.runs c.self.invariant in
     let grown : c.self.inside.others.room ≤ c.reserve.new.self.room = c.reserve.ensures.grown in
     let enough : c.self.inside.blocks + 2 ≤ c.reserve.new.self.room = c.in_ok-reserve.ensures.ok in
     let wider : c.reserve.new.self.room ≤ c.place-placed.new.others.room = c.place-placed.ensures.room in
@@ -63,7 +63,7 @@ pub returns-in_default-clause-place : goal.returns-in_default-clause-place
 returns-in_default-clause-place g c =
     let s : Space = record { capacity = c.self.inside.capacity; held = c.self.inside.held.blocks; current = c.self.inside.current } in
     let runs = c.reserve.new.self.runs in
-    let kept : IsKept s runs c.self.inside.others.room c.self.inside.blocks = rw c.reserve.ensures.runs c.self.invariant in
+    let kept : KeepsRuns s runs c.self.inside.others.room c.self.inside.blocks = rw c.reserve.ensures.runs c.self.invariant in
     let grown : c.self.inside.others.room ≤ c.reserve.new.self.room = c.reserve.ensures.grown in
     let enough : c.self.inside.blocks + 2 ≤ c.reserve.new.self.room = c.in_ok-reserve.ensures.ok in
     let wider : c.reserve.new.self.room ≤ c.place-placed.new.others.room = c.place-placed.ensures.room in
@@ -76,7 +76,7 @@ pub returns-in_default-clause-after : goal.returns-in_default-clause-after
 returns-in_default-clause-after g c =
     let s : Space = record { capacity = c.self.inside.capacity; held = c.self.inside.held.blocks; current = c.self.inside.current } in
     let runs = c.reserve.new.self.runs in
-    let kept : IsKept s runs c.self.inside.others.room c.self.inside.blocks = rw c.reserve.ensures.runs c.self.invariant in
+    let kept : KeepsRuns s runs c.self.inside.others.room c.self.inside.blocks = rw c.reserve.ensures.runs c.self.invariant in
     let grown : c.self.inside.others.room ≤ c.reserve.new.self.room = c.reserve.ensures.grown in
     let enough : c.self.inside.blocks + 2 ≤ c.reserve.new.self.room = c.in_ok-reserve.ensures.ok in
     let wider : c.reserve.new.self.room ≤ c.place-placed.new.others.room = c.place-placed.ensures.room in
@@ -89,7 +89,7 @@ pub returns-in_default-clause-none : goal.returns-in_default-clause-none
 returns-in_default-clause-none g c =
     let s : Space = record { capacity = c.self.inside.capacity; held = c.self.inside.held.blocks; current = c.self.inside.current } in
     let runs = c.reserve.new.self.runs in
-    let kept : IsKept s runs c.self.inside.others.room c.self.inside.blocks = rw c.reserve.ensures.runs c.self.invariant in
+    let kept : KeepsRuns s runs c.self.inside.others.room c.self.inside.blocks = rw c.reserve.ensures.runs c.self.invariant in
     let grown : c.self.inside.others.room ≤ c.reserve.new.self.room = c.reserve.ensures.grown in
     let enough : c.self.inside.blocks + 2 ≤ c.reserve.new.self.room = c.in_ok-reserve.ensures.ok in
     let wider : c.reserve.new.self.room ≤ c.place-placed.new.others.room = c.place-placed.ensures.room in
@@ -102,7 +102,7 @@ pub returns-in_default-clause-cost : goal.returns-in_default-clause-cost
 returns-in_default-clause-cost g c =
     let s : Space = record { capacity = c.self.inside.capacity; held = c.self.inside.held.blocks; current = c.self.inside.current } in
     let runs = c.reserve.new.self.runs in
-    let kept : IsKept s runs c.self.inside.others.room c.self.inside.blocks = rw c.reserve.ensures.runs c.self.invariant in
+    let kept : KeepsRuns s runs c.self.inside.others.room c.self.inside.blocks = rw c.reserve.ensures.runs c.self.invariant in
     let grown : c.self.inside.others.room ≤ c.reserve.new.self.room = c.reserve.ensures.grown in
     let enough : c.self.inside.blocks + 2 ≤ c.reserve.new.self.room = c.in_ok-reserve.ensures.ok in
     let wider : c.reserve.new.self.room ≤ c.place-placed.new.others.room = c.place-placed.ensures.room in
@@ -121,7 +121,7 @@ pub invariant_of-self-2 : goal.invariant_of-self-2
 invariant_of-self-2 g c =
     let s : Space = record { capacity = c.self.inside.capacity; held = c.self.inside.held.blocks; current = c.self.inside.current } in
     let runs = c.reserve.new.self.runs in
-    let kept : IsKept s runs c.self.inside.others.room c.self.inside.blocks = rw c.reserve.ensures.runs c.self.invariant in
+    let kept : KeepsRuns s runs c.self.inside.others.room c.self.inside.blocks = rw c.reserve.ensures.runs c.self.invariant in
     let grown : c.self.inside.others.room ≤ c.reserve.new.self.room = c.reserve.ensures.grown in
     let enough : c.self.inside.blocks + 2 ≤ c.reserve.new.self.room = c.in_ok-reserve.ensures.ok in
     let wider : c.reserve.new.self.room ≤ c.place-placed.new.others.room = c.place-placed.ensures.room in
@@ -134,7 +134,7 @@ pub returns-clause-place : goal.returns-clause-place
 returns-clause-place g c =
     let s : Space = record { capacity = c.self.inside.capacity; held = c.self.inside.held.blocks; current = c.self.inside.current } in
     let runs = c.reserve.new.self.runs in
-    let kept : IsKept s runs c.self.inside.others.room c.self.inside.blocks = rw c.reserve.ensures.runs c.self.invariant in
+    let kept : KeepsRuns s runs c.self.inside.others.room c.self.inside.blocks = rw c.reserve.ensures.runs c.self.invariant in
     let grown : c.self.inside.others.room ≤ c.reserve.new.self.room = c.reserve.ensures.grown in
     let enough : c.self.inside.blocks + 2 ≤ c.reserve.new.self.room = c.in_ok-reserve.ensures.ok in
     let wider : c.reserve.new.self.room ≤ c.place-placed.new.others.room = c.place-placed.ensures.room in
@@ -149,7 +149,7 @@ pub returns-clause-after : goal.returns-clause-after
 returns-clause-after g c =
     let s : Space = record { capacity = c.self.inside.capacity; held = c.self.inside.held.blocks; current = c.self.inside.current } in
     let runs = c.reserve.new.self.runs in
-    let kept : IsKept s runs c.self.inside.others.room c.self.inside.blocks = rw c.reserve.ensures.runs c.self.invariant in
+    let kept : KeepsRuns s runs c.self.inside.others.room c.self.inside.blocks = rw c.reserve.ensures.runs c.self.invariant in
     let grown : c.self.inside.others.room ≤ c.reserve.new.self.room = c.reserve.ensures.grown in
     let enough : c.self.inside.blocks + 2 ≤ c.reserve.new.self.room = c.in_ok-reserve.ensures.ok in
     let wider : c.reserve.new.self.room ≤ c.place-placed.new.others.room = c.place-placed.ensures.room in
@@ -163,7 +163,7 @@ pub returns-clause-none : goal.returns-clause-none
 returns-clause-none g c =
     let s : Space = record { capacity = c.self.inside.capacity; held = c.self.inside.held.blocks; current = c.self.inside.current } in
     let runs = c.reserve.new.self.runs in
-    let kept : IsKept s runs c.self.inside.others.room c.self.inside.blocks = rw c.reserve.ensures.runs c.self.invariant in
+    let kept : KeepsRuns s runs c.self.inside.others.room c.self.inside.blocks = rw c.reserve.ensures.runs c.self.invariant in
     let grown : c.self.inside.others.room ≤ c.reserve.new.self.room = c.reserve.ensures.grown in
     let enough : c.self.inside.blocks + 2 ≤ c.reserve.new.self.room = c.in_ok-reserve.ensures.ok in
     let wider : c.reserve.new.self.room ≤ c.place-placed.new.others.room = c.place-placed.ensures.room in
@@ -178,7 +178,7 @@ pub returns-clause-aligned : goal.returns-clause-aligned
 returns-clause-aligned g c =
     let s : Space = record { capacity = c.self.inside.capacity; held = c.self.inside.held.blocks; current = c.self.inside.current } in
     let runs = c.reserve.new.self.runs in
-    let kept : IsKept s runs c.self.inside.others.room c.self.inside.blocks = rw c.reserve.ensures.runs c.self.invariant in
+    let kept : KeepsRuns s runs c.self.inside.others.room c.self.inside.blocks = rw c.reserve.ensures.runs c.self.invariant in
     let grown : c.self.inside.others.room ≤ c.reserve.new.self.room = c.reserve.ensures.grown in
     let enough : c.self.inside.blocks + 2 ≤ c.reserve.new.self.room = c.in_ok-reserve.ensures.ok in
     let wider : c.reserve.new.self.room ≤ c.place-placed.new.others.room = c.place-placed.ensures.room in
@@ -191,7 +191,7 @@ pub returns-clause-sound : goal.returns-clause-sound
 returns-clause-sound g c =
     let s : Space = record { capacity = c.self.inside.capacity; held = c.self.inside.held.blocks; current = c.self.inside.current } in
     let runs = c.reserve.new.self.runs in
-    let kept : IsKept s runs c.self.inside.others.room c.self.inside.blocks = rw c.reserve.ensures.runs c.self.invariant in
+    let kept : KeepsRuns s runs c.self.inside.others.room c.self.inside.blocks = rw c.reserve.ensures.runs c.self.invariant in
     let grown : c.self.inside.others.room ≤ c.reserve.new.self.room = c.reserve.ensures.grown in
     let enough : c.self.inside.blocks + 2 ≤ c.reserve.new.self.room = c.in_ok-reserve.ensures.ok in
     let wider : c.reserve.new.self.room ≤ c.place-placed.new.others.room = c.place-placed.ensures.room in
@@ -204,7 +204,7 @@ pub returns-clause-cost : goal.returns-clause-cost
 returns-clause-cost g c =
     let s : Space = record { capacity = c.self.inside.capacity; held = c.self.inside.held.blocks; current = c.self.inside.current } in
     let runs = c.reserve.new.self.runs in
-    let kept : IsKept s runs c.self.inside.others.room c.self.inside.blocks = rw c.reserve.ensures.runs c.self.invariant in
+    let kept : KeepsRuns s runs c.self.inside.others.room c.self.inside.blocks = rw c.reserve.ensures.runs c.self.invariant in
     let grown : c.self.inside.others.room ≤ c.reserve.new.self.room = c.reserve.ensures.grown in
     let enough : c.self.inside.blocks + 2 ≤ c.reserve.new.self.room = c.in_ok-reserve.ensures.ok in
     let wider : c.reserve.new.self.room ≤ c.place-placed.new.others.room = c.place-placed.ensures.room in
@@ -217,7 +217,7 @@ pub returns-in_default-clause-least : goal.returns-in_default-clause-least
 returns-in_default-clause-least g c =
     let s : Space = record { capacity = c.self.inside.capacity; held = c.self.inside.held.blocks; current = c.self.inside.current } in
     let runs = c.reserve.new.self.runs in
-    let kept : IsKept s runs c.self.inside.others.room c.self.inside.blocks = rw c.reserve.ensures.runs c.self.invariant in
+    let kept : KeepsRuns s runs c.self.inside.others.room c.self.inside.blocks = rw c.reserve.ensures.runs c.self.invariant in
     let grown : c.self.inside.others.room ≤ c.reserve.new.self.room = c.reserve.ensures.grown in
     let enough : c.self.inside.blocks + 2 ≤ c.reserve.new.self.room = c.in_ok-reserve.ensures.ok in
     let wider : c.reserve.new.self.room ≤ c.place-placed.new.others.room = c.place-placed.ensures.room in
@@ -230,7 +230,7 @@ pub returns-clause-least : goal.returns-clause-least
 returns-clause-least g c =
     let s : Space = record { capacity = c.self.inside.capacity; held = c.self.inside.held.blocks; current = c.self.inside.current } in
     let runs = c.reserve.new.self.runs in
-    let kept : IsKept s runs c.self.inside.others.room c.self.inside.blocks = rw c.reserve.ensures.runs c.self.invariant in
+    let kept : KeepsRuns s runs c.self.inside.others.room c.self.inside.blocks = rw c.reserve.ensures.runs c.self.invariant in
     let grown : c.self.inside.others.room ≤ c.reserve.new.self.room = c.reserve.ensures.grown in
     let enough : c.self.inside.blocks + 2 ≤ c.reserve.new.self.room = c.in_ok-reserve.ensures.ok in
     let wider : c.reserve.new.self.room ≤ c.place-placed.new.others.room = c.place-placed.ensures.room in

@@ -11,7 +11,7 @@ use Rattle.gc_values.specs.declared.faults.PlaceFault.{PlaceFault}
 use Rattle.gc_policy.proofs.AccountLemmas.{some_account}
 use Rattle.gc_values.specs.declared.faults.PlaceFault.TheVariants as place_fault
 use Rattle.gc_store.specs.Places.{Places}
-use Rattle.gc_store.specs.Requests.{CanPlaceFields, fields_of}
+use Rattle.gc_store.specs.Requests.{CanPlaceFields, struct_fields_of}
 use Rattle.gc_store.specs.Values.{AllStand}
 use Rattle.gc_lists.specs.Cells.{cell}
 use Rattle.gc_lists.specs.Kits.{IsCellType}
@@ -43,7 +43,7 @@ placed g c t a xs holds stands result is =
     (policy_state t a (g.L.ResourceLimiter.limits c.args.limiter.now)) (g.L.ResourceLimiter.limits c.place.new.limiter) r c.place.new.self) is
     (c.place.ensures.places t a (cell c.args.kit.now.cell (number_bits w64 c.args.head) stands.reference) holds
     (subst (λ (n : ℕ). (vs : List Value) × (AllStand c.args.store.now t (cell_values (cast_signed w64 (cast_unsigned w64 c.args.head)) c.args.self.now.root) vs
-    × (cell {D = g.row.D.Denot} c.args.kit.now.cell (number_bits w64 c.args.head) stands.reference ≡ struct n (stored_in (fields_of t.types n) vs)))) (sym c.cell.ensures)
+    × (cell {D = g.row.D.Denot} c.args.kit.now.cell (number_bits w64 c.args.head) stands.reference ≡ struct n (stored_in (struct_fields_of t.types n) vs)))) (sym c.cell.ensures)
     (object_asked c.args.store.now t c.args.self.now.root c.args.kit.now.cell c.args.head (cast_signed w64 (cast_unsigned w64 c.args.head)) (back c.args.head c.ranges.head) stands.reference stands.names
     (cells g c t a holds))))
 

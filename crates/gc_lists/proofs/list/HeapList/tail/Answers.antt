@@ -7,7 +7,7 @@ use Rattle.gc_values.specs.declared.root.GcRootIndex.{GcRootIndex}
 use Rattle.gc_store.specs.Values.{ReadsValue}
 use Rattle.gc_lists.specs.declared.fault.ListFault.{ListFault}
 use Rattle.gc_lists.specs.Answers.{AnswersVersion, AreNumbers, KeepsRoot, Tails}
-use Rattle.gc_lists.specs.Frames.{ChangesRoots}
+use Rattle.gc_lists.specs.Frames.{ChangesOwned}
 use Rattle.gc_model.specs.Table.{push, leave}
 use Rattle.gc_lists.proofs.list.HeapList.tail.Goals as goal
 use Rattle.gc_lists.proofs.CellReads.{version_cell, has_next, can_read_next}
@@ -51,7 +51,7 @@ returns-in-None-clause-tails g c = λ mine t a ty xs holds stands.
     let reads = subst (λ (r : Result RawValue RootFault). ReadsValue g.H.GcHeap.KIND t a (reference Any names.next) r c.read_value.new.self) c.in-Ok.is
     (c.read_value.ensures.reads t a (reference Any names.next) holds (has_next c.args.store.now t c.in-Some.root xs names)) in
     let rest = rest_of g.H.GcHeap.KIND c.args.store.now t (holds.place, holds.holds) c.in-Some.root ty xs names (of_first g.H.GcHeap.KIND c.args.store.now t (holds.place, holds.holds) c.in-Some.root c.args.self.now.root ty xs c.in-Some.is stands names) in
-    subst (λ (v : Option GcRootIndex). AnswersVersion g.H.GcHeap.KIND t (ChangesRoots t) (AreNumbers ty (drop 1 xs)) v c.read_value.new.self) (sym c.empty-in-None.ensures)
+    subst (λ (v : Option GcRootIndex). AnswersVersion g.H.GcHeap.KIND t (ChangesOwned t) (AreNumbers ty (drop 1 xs)) v c.read_value.new.self) (sym c.empty-in-None.ensures)
     (read_none g.H.GcHeap.KIND c.args.store.now c.read_value.new.self c.read_value.new.self t a ty (drop 1 xs) c.enter_gc_lifo_scope-scope.result (c.enter_gc_lifo_scope-scope.ensures.table t (holds.place, holds.holds)) (holds.place, holds.holds)
     names.next c.in-Ok.value (no_small c.args.store.now t c.in-Some.root xs names) reads (sym c.handle.ensures ∙ c.in-None.is) rest)
 

@@ -2,7 +2,7 @@ use Rattle.std.proofs.Common.{◌≡◌, ◌-◌, ◌^◌, ℕ, true, refl, min,
 use Rattle.gc_heap.specs.Collection.{Start, Collected, IsIncrements, has_host, stage}
 use Rattle.gc_heap.specs.Run.{start_at}
 use Rattle.gc_heap.proofs.AgainLemmas.{can_collect_again}
-use Rattle.gc_mutator.specs.Mutators.{MutatorView, start_of}
+use Rattle.gc_mutator.specs.Mutators.{MutatorView, mutator_start}
 use Rattle.gc_mutator.proofs.mutator.Mutator.collect.Goals as goal
 use Rattle.gc_mutator.proofs.mutator.Mutator.collect.Goals.{After-begin-state}
 
@@ -29,11 +29,11 @@ invariant_of-self g c =
 pub returns-clause-collected : goal.returns-clause-collected
 returns-clause-collected g c =
     let at = (goal.at.returns-clause-collected g c).After-begin-state in
-    subst (λ (m : MutatorView). Collected g.H.GcHeap.KIND (start_of m) (g.H.GcHeap.seen c.count_increments.new.heap) c.count_increments.new.roots.roots (has_host c.count_increments.new.trace.host_data_table.now.entries)) c.self.view_is
+    subst (λ (m : MutatorView). Collected g.H.GcHeap.KIND (mutator_start m) (g.H.GcHeap.seen c.count_increments.new.heap) c.count_increments.new.roots.roots (has_host c.count_increments.new.trace.host_data_table.now.entries)) c.self.view_is
     (c.count_increments.ensures.collected (at_start g at) true (under_way g at))
 
 pub returns-clause-increments : goal.returns-clause-increments
 returns-clause-increments g c =
     let at = (goal.at.returns-clause-increments g c).After-begin-state in
-    subst (λ (m : MutatorView). (n : ℕ) × (IsIncrements g.H.GcHeap.KIND (start_of m) n × (c.count_increments.result ≡ min n (2 ^ 64 - 1)))) c.self.view_is
+    subst (λ (m : MutatorView). (n : ℕ) × (IsIncrements g.H.GcHeap.KIND (mutator_start m) n × (c.count_increments.result ≡ min n (2 ^ 64 - 1)))) c.self.view_is
     (c.count_increments.ensures.increments (at_start g at) true (under_way g at))

@@ -5,7 +5,7 @@ use Rattle.std.specs.Prelude.{is_err}
 use Rattle.gc_memory.specs.Offsets.{external_size}
 use Rattle.gc_heap.specs.Objects.{external}
 use Rattle.gc_mutator.specs.Mutators.{MutatorView}
-use Rattle.gc_mutator.specs.Makes.{MakesHost}
+use Rattle.gc_mutator.specs.Makes.{MakesExternal}
 use Rattle.gc_mutator.proofs.MakeLemmas.{view, unchanged_hosts, host_made, nothing_made, taken_back, host_added, host_refused, not_full}
 use Rattle.gc_mutator.proofs.mutator.Mutator.make_host.Goals as goal
 use Rattle.gc_mutator.proofs.mutator.Mutator.make_host.Goals.{After-dealloc-taken_back}
@@ -47,7 +47,7 @@ returns-then-is_err g c =
     let types = c.self.inside.types.declarations in
     let new = g.H.GcHeap.seen c.alloc_externref.new.self in
     let back = c.dealloc-taken_back.new.self.entries in
-    subst (λ (m : MutatorView). MakesHost g.H.GcHeap.KIND m (view new c.root_new-rooted.new.roots.roots types back) c.args.value c.root_new-rooted.result) c.self.view_is
+    subst (λ (m : MutatorView). MakesExternal g.H.GcHeap.KIND m (view new c.root_new-rooted.new.roots.roots types back) c.args.value c.root_new-rooted.result) c.self.view_is
     (host_refused g.H.GcHeap.KIND types (g.H.GcHeap.seen c.self.inside.heap) new c.self.inside.roots.roots c.make_room.new.roots.roots c.root_new-rooted.new.roots.roots c.self.inside.hosts.entries c.alloc.new.self.entries
     c.in-Ok-alloc.id c.args.value c.alloc_externref.result c.external_word-made.result c.root_new-rooted.result c.alloc_externref.ensures.allocated c.external_word-made.ensures c.make_room.ensures.roots c.root_new-rooted.ensures
     c.in-Ok.ensures.few (not_full (len c.self.inside.hosts.entries) c.in-Ok-alloc.id (Full c.args.value) c.in-Ok-alloc.ensures.full) (failed g at) back (hosts_are g at))
@@ -57,7 +57,7 @@ returns-else-is_err g c =
     let types = c.self.inside.types.declarations in
     let new = g.H.GcHeap.seen c.alloc_externref.new.self in
     let more = c.alloc.new.self.entries in
-    subst (λ (m : MutatorView). MakesHost g.H.GcHeap.KIND m (view new c.root_new-rooted.new.roots.roots types more) c.args.value c.root_new-rooted.result) c.self.view_is
+    subst (λ (m : MutatorView). MakesExternal g.H.GcHeap.KIND m (view new c.root_new-rooted.new.roots.roots types more) c.args.value c.root_new-rooted.result) c.self.view_is
     (host_added g.H.GcHeap.KIND types (g.H.GcHeap.seen c.self.inside.heap) new c.self.inside.roots.roots c.make_room.new.roots.roots c.root_new-rooted.new.roots.roots c.self.inside.hosts.entries more
     c.in-Ok-alloc.id c.args.value c.alloc_externref.result c.external_word-made.result c.root_new-rooted.result c.alloc_externref.ensures.allocated c.external_word-made.ensures c.make_room.ensures.roots c.root_new-rooted.ensures
     c.in-Ok.ensures.few (not_full (len c.self.inside.hosts.entries) c.in-Ok-alloc.id (Full c.args.value) c.in-Ok-alloc.ensures.full) (sym c.is_err.ensures.value ∙ c.if-is_err.false) c.in-Ok-alloc.ensures.fresh c.in-Ok-alloc.ensures.added)

@@ -4,7 +4,7 @@ use Rattle.gc_view.specs.Heaps.{HeapObject}
 use Rattle.gc_heap.specs.Barriers.{overwritten}
 use Rattle.gc_heap.specs.Collection.{has_host, IsWordOf}
 use Rattle.gc_mutator.specs.Mutators.{MutatorView}
-use Rattle.gc_mutator.specs.Fields.{HasReference, slot_word}
+use Rattle.gc_mutator.specs.Fields.{HasReference, word_or_null}
 use Rattle.gc_mutator.proofs.FieldLemmas.{word_readable}
 use Rattle.gc_mutator.proofs.WriteLemmas.{can_overwrite, held_then, reference_stored, reference_written}
 use Rattle.gc_mutator.proofs.mutator.Mutator.write_reference.Goals as goal
@@ -48,7 +48,7 @@ invariant_of-self g c =
     record {
       sound = c.write_u32.ensures.sound;
       can = reference_stored L types old middle c.self.inside.roots.roots (has_host c.self.inside.hosts.entries) c.in-Some.object o c.args.offset c.overwritten_word-slot.result c.in-Ok.word heap held lies (seen_then g at)
-          (g.H.GcHeap.seen c.write_u32.new.heap) c.raw_word.result c.self.invariant.can small c.raw_word.ensures (subst (λ (m : MutatorView). IsWordOf m.heap (slot_word c.in-Ok.word)) (sym c.self.view_is) c.in-Ok.ensures.names)
+          (g.H.GcHeap.seen c.write_u32.new.heap) c.raw_word.result c.self.invariant.can small c.raw_word.ensures (subst (λ (m : MutatorView). IsWordOf m.heap (word_or_null c.in-Ok.word)) (sym c.self.view_is) c.in-Ok.ensures.names)
           (c.overwritten_word-slot.ensures.counting o held) c.overwritten_word-slot.ensures.present c.in-Ok.ensures.present (c.write_u32.ensures.written o then_held);
     }
 

@@ -1,15 +1,15 @@
 use Rattle.std.proofs.Common.{◌≡◌, ◌+◌, ◌≤◌, ℕ, Bool, true}
 use Rattle.gc_heap.specs.Collection.{Start}
 use Rattle.gc_owner.specs.Counting.{ticks_of}
-use Rattle.gc_owner.specs.Owners.{OwnerValue, IsUnderWay}
+use Rattle.gc_owner.specs.Owners.{OwnerValue, IsOwnerUnderWay}
 use Rattle.gc_owner.specs.Going.{left_of}
-use Rattle.gc_owner.proofs.OwnerLemmas.{kind_of}
+use Rattle.gc_owner.proofs.OwnerLemmas.{heap_kind}
 use Rattle.gc_owner.proofs.owner.HeapOwner.finish_counted.Given as goal
 
 abbrev pub invariant-increments : goal.invariant-increments
 invariant-increments g l = record {
-  goes : (s : Start) (n : ℕ) (d : Bool) (begun : OwnerValue g.row.H.Denot g.row.H-State.Denot g.row.D.Denot) → IsUnderWay (kind_of g.H.GcHeap.KIND g.H.GcHeap.seen g.H.GcHeap.sound g.H.GcHeap.under_way) s n d begun l.fn.self
-      → (m : ℕ) × IsUnderWay (kind_of g.H.GcHeap.KIND g.H.GcHeap.seen g.H.GcHeap.sound g.H.GcHeap.under_way) s m d begun l.self;
+  goes : (s : Start) (n : ℕ) (d : Bool) (begun : OwnerValue g.row.H.Denot g.row.H-State.Denot g.row.D.Denot) → IsOwnerUnderWay (heap_kind g.H.GcHeap.KIND g.H.GcHeap.seen g.H.GcHeap.sound g.H.GcHeap.under_way) s n d begun l.fn.self
+      → (m : ℕ) × IsOwnerUnderWay (heap_kind g.H.GcHeap.KIND g.H.GcHeap.seen g.H.GcHeap.sound g.H.GcHeap.under_way) s m d begun l.self;
   same : l.fn.self.seen.idle ≡ true → (l.self ≡ l.fn.self) × (l.steps ≡ l.fn.steps);
   ticks : ticks_of g.H.GcHeap.ticks l.self.state + l.fn.steps ≡ ticks_of g.H.GcHeap.ticks l.fn.self.state + l.steps;
   rises : l.fn.steps ≤ l.steps;

@@ -4,16 +4,16 @@ use Rattle.gc_heap.specs.Objects.{external}
 use Rattle.gc_owner.specs.declared.allocate.AllocateFault.{AllocateFault}
 use Rattle.gc_owner.specs.declared.allocate.AllocateFault.TheVariants as fault
 use Rattle.gc_owner.specs.Growing.{state_of}
-use Rattle.gc_owner.specs.Makes.{Allocates}
+use Rattle.gc_owner.specs.Makes.{AllocateAnswers}
 use Rattle.gc_owner.proofs.HostLemmas.{taken_lacking, taken_wanting, free_lacking, free_wanting}
 use Rattle.gc_owner.proofs.owner.HeapOwner.place_host.Given.{Over}
 use Rattle.gc_owner.proofs.owner.HeapOwner.place_host.Goals.{After-allocate}
 use Rattle.gc_owner.proofs.owner.HeapOwner.place_host.Goals as goal
 
 allocated : (g : Over) (c : After-allocate g) (answer : Result ℕ AllocateFault) → c.allocate.result ≡ answer
-    → Allocates {D = g.row.D.Denot} g.H.GcHeap.KIND (external c.in-Ok.id) (external_size g.H.GcHeap.KIND) (state_of c.put_value.new.self.seen (g.L.ResourceLimiter.limits c.args.limiter.now)) (state_of c.allocate.new.self.seen (g.L.ResourceLimiter.limits c.allocate.new.limiter)) answer
+    → AllocateAnswers {D = g.row.D.Denot} g.H.GcHeap.KIND (external c.in-Ok.id) (external_size g.H.GcHeap.KIND) (state_of c.put_value.new.self.seen (g.L.ResourceLimiter.limits c.args.limiter.now)) (state_of c.allocate.new.self.seen (g.L.ResourceLimiter.limits c.allocate.new.limiter)) answer
 allocated g c answer is =
-    subst (λ (r : Result ℕ AllocateFault). Allocates {D = g.row.D.Denot} g.H.GcHeap.KIND (external c.in-Ok.id) (external_size g.H.GcHeap.KIND) (state_of c.put_value.new.self.seen (g.L.ResourceLimiter.limits c.args.limiter.now)) (state_of c.allocate.new.self.seen (g.L.ResourceLimiter.limits c.allocate.new.limiter)) r) is
+    subst (λ (r : Result ℕ AllocateFault). AllocateAnswers {D = g.row.D.Denot} g.H.GcHeap.KIND (external c.in-Ok.id) (external_size g.H.GcHeap.KIND) (state_of c.put_value.new.self.seen (g.L.ResourceLimiter.limits c.args.limiter.now)) (state_of c.allocate.new.self.seen (g.L.ResourceLimiter.limits c.allocate.new.limiter)) r) is
     (c.allocate.ensures.allocated (external c.in-Ok.id) (external_size g.H.GcHeap.KIND) (c.in-Ok.ensures.free, (refl, refl)))
 
 pub take_value-requires-clause-idle : goal.take_value-requires-clause-idle

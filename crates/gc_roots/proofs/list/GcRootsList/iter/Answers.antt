@@ -1,5 +1,5 @@
 use Rattle.std.proofs.Common.{ℕ, min, ◌-◌}
-use Rattle.gc_roots.specs.Columns.{roots_of}
+use Rattle.gc_roots.specs.Columns.{paired_roots}
 use Rattle.gc_roots.specs.Roots.{with_words}
 use Rattle.std.proofs.Common.{◌≡◌, ◌∙◌, ap, sym, length}
 use Rattle.std.specs.Vec.{vec_len, vec_capacity}
@@ -19,8 +19,8 @@ returns c =
       record {
         lends = tt;
         rest = c.new.ensures.rest
-            ∙ ap (λ os. roots_of os c.as_mut_slice.result.now) c.as_slice.ensures.value
-            ∙ ap (λ ws. roots_of c.self.inside.origins.items ws) c.as_mut_slice.ensures.value
+            ∙ ap (λ os. paired_roots os c.as_mut_slice.result.now) c.as_slice.ensures.value
+            ∙ ap (λ ws. paired_roots c.self.inside.origins.items ws) c.as_mut_slice.ensures.value
             ∙ ap (λ r. r.roots) c.self.view_is;
       },
     )

@@ -1,6 +1,6 @@
 use Rattle.std.proofs.Common.{◌≡◌, Some, false, ◌∙◌}
 use Rattle.gc_script.specs.Slots.{register_at}
-use Rattle.gc_script.specs.State.{State, HoldsState, Stands}
+use Rattle.gc_script.specs.State.{State, HoldsState, RegisterStands}
 use Rattle.gc_script.specs.Given.{held_operand, given_register, is_unset}
 use Rattle.gc_script.specs.Values.{AreRegisters}
 use Rattle.gc_script.proofs.FoundLemmas.{unset_held}
@@ -16,14 +16,14 @@ are_registers : (g : given.Over) (c : After-operand_value g) (s : State) → Hol
 are_registers g c s holds d = register_held g.H.GcHeap.KIND c.args.store.now c.args.self.now _ s d (register_at c.self.inside.registers d) c.self.view_is refl holds
 
 -- what the register holds
-target_stands : (g : given.Over) (c : After-operand_value g) (s : State) → HoldsState g.H.GcHeap.KIND c.args.store.now c.args.self.now s → Stands c.args.store.now s.table (Some c.in-Some.value) (s.registers c.args.r)
+target_stands : (g : given.Over) (c : After-operand_value g) (s : State) → HoldsState g.H.GcHeap.KIND c.args.store.now c.args.self.now s → RegisterStands c.args.store.now s.table (Some c.in-Some.value) (s.registers c.args.r)
 target_stands g c s holds = register_held g.H.GcHeap.KIND c.args.store.now c.args.self.now _ s c.args.r (Some c.in-Some.value) c.self.view_is c.in-Some.ensures holds
 
 target_set : (g : given.Over) (c : After-operand_value g) (s : State) → HoldsState g.H.GcHeap.KIND c.args.store.now c.args.self.now s → is_unset (given_register s c.args.r) ≡ false
 target_set g c s holds = is_set c.args.store.now s.table c.in-Some.value (s.registers c.args.r) (target_stands g c s holds)
 
 -- what the operand holds
-value_stands : (g : given.Over) (c : After-find_object g) (s : State) → HoldsState g.H.GcHeap.KIND c.args.store.now c.args.self.now s → Stands c.args.store.now s.table (Some c.in-Some-operand_value.value) (held_operand s c.args.operand.now)
+value_stands : (g : given.Over) (c : After-find_object g) (s : State) → HoldsState g.H.GcHeap.KIND c.args.store.now c.args.self.now s → RegisterStands c.args.store.now s.table (Some c.in-Some-operand_value.value) (held_operand s c.args.operand.now)
 value_stands g c s holds = c.in-Some-operand_value.ensures.holds c.args.store.now s (are_registers g (goal.at.After-find_object g c).After-operand_value s holds)
 
 pub returns-in-None-operand_value-clause-finds : goal.returns-in-None-operand_value-clause-finds

@@ -15,13 +15,13 @@ use Rattle.gc_store.specs.Values.{AllStand}
 use Rattle.gc_commands.specs.declared.reply.Refusal.TheVariants as refusal
 use Rattle.gc_script.specs.declared.objects.ValueTypes.TheVariants as types_of
 use Rattle.gc_script.specs.Slots.{RunnerView, with_registers, register_at}
-use Rattle.gc_script.specs.State.{State, HoldsState, Stands, visible}
+use Rattle.gc_script.specs.State.{State, HoldsState, RegisterStands, visible}
 use Rattle.gc_script.specs.Given.{given_values}
 use Rattle.gc_script.specs.Shapes.{making}
 use Rattle.gc_script.specs.Steps.{first_failing, any_unset, all_value_tests, heap_tests}
 use Rattle.gc_script.specs.Requested.{class_of, type_of, requested, requested_fields, requested_tests}
 use Rattle.gc_script.specs.Named.{type_at}
-use Rattle.gc_script.specs.Values.{AreRegisters, set_operand, set_operands, AllHeld, AllPlain, AllStorable, typed_tests}
+use Rattle.gc_script.specs.Values.{AreRegisters, set_operand, set_operands, AllHeld, AllPlain, AllRawStorable, typed_tests}
 use Rattle.gc_script.proofs.CountLemmas.{mild_found, append_mild}
 use Rattle.gc_script.proofs.FieldRequests.{requested_types, fields_request, fields_unset, fields_count, fields_value, fields_heap, typed_by, refused_on, runs_on}
 use Rattle.gc_script.proofs.GoesLemmas.{wants_nothing, values_mild}
@@ -45,7 +45,7 @@ known_in g c s holds = ap (λ (ts : List Declaration). requested_fields ts c.arg
 
 registers_are : (g : given.Over) (c : After-any_unset g) (s : State) → HoldsState g.H.GcHeap.KIND c.args.store.now c.args.self.now s → AreRegisters c.args.store.now c.self.inside.registers s
 registers_are g c s holds d =
-    subst (λ (o : Option RawValue). Stands c.args.store.now s.table o (s.registers d)) (sym (ap (λ (r : RunnerView). register_at r.registers d) c.self.view_is)) (holds.registers d)
+    subst (λ (o : Option RawValue). RegisterStands c.args.store.now s.table o (s.registers d)) (sym (ap (λ (r : RunnerView). register_at r.registers d) c.self.view_is)) (holds.registers d)
 
 -- no operand is unset
 set : (g : given.Over) (c : After-check_operands g) (s : State) → HoldsState g.H.GcHeap.KIND c.args.store.now c.args.self.now s → any_unset s c.args.operands.now ≡ false
@@ -135,7 +135,7 @@ place-requires-clause-can g c =
     can_place g placed c.args.request (known g at).0 (known g at).1.0
     (subst (λ (raws : List RawValue). CanPlaceFields ℕ g.H.GcHeap.KIND c.args.store.now (requested_fields c.args.store.now.types c.args.request) raws) (sym (values_are g placed))
     (fields_request g.H.GcHeap.KIND c.args.store.now c.args.request (set_operands c.self.inside.registers c.args.operands.now) (known g at).0 (known g at).1.0 (length-map c.args.operands.now (set_operand c.self.inside.registers) ∙ many g after)
-    (subst (λ (ty : ℕ). AllStorable g.H.GcHeap.KIND c.args.store.now (types_of.Fields ty) (set_operands c.self.inside.registers c.args.operands.now)) c.type_of.ensures c.in_default-check_operands.ensures.stores)))
+    (subst (λ (ty : ℕ). AllRawStorable g.H.GcHeap.KIND c.args.store.now (types_of.Fields ty) (set_operands c.self.inside.registers c.args.operands.now)) c.type_of.ensures c.in_default-check_operands.ensures.stores)))
 
 pub place-requires-clause-plain : goal.place-requires-clause-plain
 place-requires-clause-plain g c =

@@ -7,10 +7,10 @@ use Rattle.gc_commands.specs.declared.reply.Reply.TheVariants as reply
 use Rattle.std.specs.Prelude.{Ok}
 use Rattle.gc_script.specs.Slots.{RunnerView, with_registers, register_at}
 use Rattle.gc_script.specs.Wants.{MayWant}
-use Rattle.gc_script.specs.State.{State, HoldsState, Stands}
+use Rattle.gc_script.specs.State.{State, HoldsState, RegisterStands}
 use Rattle.gc_script.specs.Given.{held_operand, given, given_value, is_unset}
 use Rattle.gc_script.specs.Steps.{heap_tests}
-use Rattle.gc_script.specs.Shapes.{new_array}
+use Rattle.gc_script.specs.Shapes.{filled_array}
 use Rattle.gc_script.specs.Run.{RunsOne}
 use Rattle.gc_script.specs.Values.{AreRegisters}
 use Rattle.gc_script.proofs.FoundLemmas.{unset_held}
@@ -36,7 +36,7 @@ are_registers : (g : given.Over) (c : After-operand_value g) (s : State) → Hol
 are_registers g c s holds d = register_held g.H.GcHeap.KIND c.args.store.now c.args.self.now _ s d (register_at c.self.inside.registers d) c.self.view_is refl holds
 
 -- what the operand holds
-stands : (g : given.Over) (c : In-Some-operand_value g) (s : State) → HoldsState g.H.GcHeap.KIND c.args.store.now c.args.self.now s → Stands c.args.store.now s.table (Some c.in-Some-operand_value.value) (held_operand s c.args.operand.now)
+stands : (g : given.Over) (c : In-Some-operand_value g) (s : State) → HoldsState g.H.GcHeap.KIND c.args.store.now c.args.self.now s → RegisterStands c.args.store.now s.table (Some c.in-Some-operand_value.value) (held_operand s c.args.operand.now)
 stands g c s holds = c.in-Some-operand_value.ensures.holds c.args.store.now s (are_registers g (goal.at.In-Some-operand_value g c).After-operand_value s holds)
 
 set : (g : given.Over) (c : In-Some-operand_value g) (s : State) → HoldsState g.H.GcHeap.KIND c.args.store.now c.args.self.now s → is_unset (given s c.args.operand.now) ≡ false
@@ -68,15 +68,15 @@ returns-clause-runs g c s holds =
       | then-len-gt0+in_default-check_value w ↦
           subst (λ (ty : ℕ). RunsOne g.H.GcHeap.KIND c.args.store.now.alloc_counter (g.L.ResourceLimiter.limits c.args.limiter.now) (g.L.ResourceLimiter.limits c.place.new.limiter) s (NewArr c.args.d ty c.args.len c.args.operand.now) c.place.result c.place.new.store (with_registers c.place.new.registers (record { owned = c.self.inside.owned; marks = c.self.inside.marks.items }))) c.new-ty.ensures
           (runs_rest g.H.GcHeap.KIND c.args.store.now.alloc_counter (g.L.ResourceLimiter.limits c.args.limiter.now) (g.L.ResourceLimiter.limits c.place.new.limiter) s (NewArr c.args.d c.new-ty.result c.args.len c.args.operand.now)
-          (heap_tests g.H.GcHeap.KIND s (new_array s c.new-ty.result c.args.len c.args.operand.now)) c.place.result c.place.new.store (with_registers c.place.new.registers (record { owned = c.self.inside.owned; marks = c.self.inside.marks.items }))
+          (heap_tests g.H.GcHeap.KIND s (filled_array s c.new-ty.result c.args.len c.args.operand.now)) c.place.result c.place.new.store (with_registers c.place.new.registers (record { owned = c.self.inside.owned; marks = c.self.inside.marks.items }))
           (array_heap g.H.GcHeap.KIND s c.args.d c.new-ty.result c.args.len c.args.operand.now c.in-Some.element declared (set g at_value s holds) w.if-len-gt0.true (w.in_default-check_value.ensures.checks s c.args.operand.now (holds_table holds.table) (stands g at_value s holds)).0)
-          (c.place.ensures.runs s (record { owned = c.self.inside.owned; marks = c.self.inside.marks.items }) (λ (x : State). new_array x c.new-ty.result c.args.len c.args.operand.now) (subst (λ (r : RunnerView). HoldsState g.H.GcHeap.KIND c.args.store.now r s) (sym c.self.view_is) holds) (given_value (given s c.args.operand.now), ((λ some. (w.in_default-check_value.ensures.checks s c.args.operand.now (holds_table holds.table) (stands g at_value s holds)).1), refl))))
+          (c.place.ensures.runs s (record { owned = c.self.inside.owned; marks = c.self.inside.marks.items }) (λ (x : State). filled_array x c.new-ty.result c.args.len c.args.operand.now) (subst (λ (r : RunnerView). HoldsState g.H.GcHeap.KIND c.args.store.now r s) (sym c.self.view_is) holds) (given_value (given s c.args.operand.now), ((λ some. (w.in_default-check_value.ensures.checks s c.args.operand.now (holds_table holds.table) (stands g at_value s holds)).1), refl))))
       | else-len-gt0 w ↦
           subst (λ (ty : ℕ). RunsOne g.H.GcHeap.KIND c.args.store.now.alloc_counter (g.L.ResourceLimiter.limits c.args.limiter.now) (g.L.ResourceLimiter.limits c.place.new.limiter) s (NewArr c.args.d ty c.args.len c.args.operand.now) c.place.result c.place.new.store (with_registers c.place.new.registers (record { owned = c.self.inside.owned; marks = c.self.inside.marks.items }))) c.new-ty.ensures
           (runs_rest g.H.GcHeap.KIND c.args.store.now.alloc_counter (g.L.ResourceLimiter.limits c.args.limiter.now) (g.L.ResourceLimiter.limits c.place.new.limiter) s (NewArr c.args.d c.new-ty.result c.args.len c.args.operand.now)
-          (heap_tests g.H.GcHeap.KIND s (new_array s c.new-ty.result c.args.len c.args.operand.now)) c.place.result c.place.new.store (with_registers c.place.new.registers (record { owned = c.self.inside.owned; marks = c.self.inside.marks.items }))
+          (heap_tests g.H.GcHeap.KIND s (filled_array s c.new-ty.result c.args.len c.args.operand.now)) c.place.result c.place.new.store (with_registers c.place.new.registers (record { owned = c.self.inside.owned; marks = c.self.inside.marks.items }))
           (empty_heap g.H.GcHeap.KIND s c.args.d c.new-ty.result c.args.len c.args.operand.now c.in-Some.element declared (set g at_value s holds) (omega (arith, w.if-len-gt0.false)))
-          (c.place.ensures.runs s (record { owned = c.self.inside.owned; marks = c.self.inside.marks.items }) (λ (x : State). new_array x c.new-ty.result c.args.len c.args.operand.now) (subst (λ (r : RunnerView). HoldsState g.H.GcHeap.KIND c.args.store.now r s) (sym c.self.view_is) holds) (given_value (given s c.args.operand.now), ((λ some. absurd (omega (arith, some, w.if-len-gt0.false))), refl))))
+          (c.place.ensures.runs s (record { owned = c.self.inside.owned; marks = c.self.inside.marks.items }) (λ (x : State). filled_array x c.new-ty.result c.args.len c.args.operand.now) (subst (λ (r : RunnerView). HoldsState g.H.GcHeap.KIND c.args.store.now r s) (sym c.self.view_is) holds) (given_value (given s c.args.operand.now), ((λ some. absurd (omega (arith, some, w.if-len-gt0.false))), refl))))
     ]
 
 pub returns-clause-cause : goal.returns-clause-cause
@@ -89,10 +89,10 @@ returns-clause-cause g c =
     subst (λ (ty : ℕ). MayWant g.H.GcHeap.KIND s (NewArr c.args.d ty c.args.len c.args.operand.now)) c.new-ty.ensures
     (elim c.if-len-gt0.branch [
       | then-len-gt0+in_default-check_value w ↦
-          room_may g.H.GcHeap.KIND s (NewArr c.args.d c.new-ty.result c.args.len c.args.operand.now) (new_array s c.new-ty.result c.args.len c.args.operand.now) refl
+          room_may g.H.GcHeap.KIND s (NewArr c.args.d c.new-ty.result c.args.len c.args.operand.now) (filled_array s c.new-ty.result c.args.len c.args.operand.now) refl
           (array_heap g.H.GcHeap.KIND s c.args.d c.new-ty.result c.args.len c.args.operand.now c.in-Some.element declared (set g at_value s holds) w.if-len-gt0.true (w.in_default-check_value.ensures.checks s c.args.operand.now (holds_table holds.table) (stands g at_value s holds)).0)
       | else-len-gt0 w ↦
-          room_may g.H.GcHeap.KIND s (NewArr c.args.d c.new-ty.result c.args.len c.args.operand.now) (new_array s c.new-ty.result c.args.len c.args.operand.now) refl
+          room_may g.H.GcHeap.KIND s (NewArr c.args.d c.new-ty.result c.args.len c.args.operand.now) (filled_array s c.new-ty.result c.args.len c.args.operand.now) refl
           (empty_heap g.H.GcHeap.KIND s c.args.d c.new-ty.result c.args.len c.args.operand.now c.in-Some.element declared (set g at_value s holds) (omega (arith, w.if-len-gt0.false)))
     ]))
 

@@ -15,7 +15,7 @@ use Rattle.gc_script.specs.State.{State, HoldsState}
 use Rattle.gc_script.specs.Given.{given, given_value, given_values}
 use Rattle.gc_script.specs.Shapes.{new_fixed}
 use Rattle.gc_script.specs.Run.{RunsOne}
-use Rattle.gc_script.specs.Values.{AreRegisters, set_operand, set_operands, AllHeld, AllPlain, AllStorable}
+use Rattle.gc_script.specs.Values.{AreRegisters, set_operand, set_operands, AllHeld, AllPlain, AllRawStorable}
 use Rattle.gc_script.specs.declared.objects.ValueTypes.TheVariants as types_of
 use Rattle.gc_script.proofs.StandLemmas.{holds_table, register_held}
 use Rattle.gc_script.proofs.GoesLemmas.{wants_nothing, refused_runs}
@@ -103,7 +103,7 @@ place-requires-clause-can g c =
     let at = (goal.at.place-requires-clause-can g c).After-any_unset in
     elements_request g.H.GcHeap.KIND c.args.store.now c.new-ty.result c.in-Ok.len c.as_slice.result.now c.in-Some.element (known g at c.args.store.now.types refl)
     (ap length (values_are g placed) ∙ length-map c.args.operands.now (set_operand c.self.inside.registers) ∙ sym c.in-Ok.ensures.1)
-    (subst (AllStorable g.H.GcHeap.KIND c.args.store.now (types_of.Elements c.in-Some.element)) (sym (values_are g placed)) c.in_default-check_operands.ensures.stores)
+    (subst (AllRawStorable g.H.GcHeap.KIND c.args.store.now (types_of.Elements c.in-Some.element)) (sym (values_are g placed)) c.in_default-check_operands.ensures.stores)
 
 pub place-requires-clause-plain : goal.place-requires-clause-plain
 place-requires-clause-plain g c =

@@ -1,6 +1,6 @@
 use Rattle.std.proofs.Common.{◌≡◌, ℕ, length, Some, false, sym, ap, ◌∙◌, subst, arith}
 use Rattle.gc_store.specs.Bytes.{CanCopyBytes, CopiesBytes}
-use Rattle.gc_script.specs.State.{State, HoldsState, Stands}
+use Rattle.gc_script.specs.State.{State, HoldsState, RegisterStands}
 use Rattle.gc_script.specs.Given.{given_register, is_unset, holds_bytes}
 use Rattle.gc_script.specs.Named.{type_at}
 use Rattle.gc_script.proofs.StandLemmas.{holds_table, register_held}
@@ -11,7 +11,7 @@ use Rattle.gc_script.proofs.runner.Runner.read_bytes.Goals as goal
 use Rattle.gc_script.proofs.runner.Runner.read_bytes.Goals.{After-find_object, After-holds_bytes}
 
 -- what the register holds
-target_stands : (g : given.Over) (c : After-find_object g) (s : State) → HoldsState g.H.GcHeap.KIND c.args.store.now c.args.self.now s → Stands c.args.store.now s.table (Some c.in-Some.value) (s.registers c.args.r)
+target_stands : (g : given.Over) (c : After-find_object g) (s : State) → HoldsState g.H.GcHeap.KIND c.args.store.now c.args.self.now s → RegisterStands c.args.store.now s.table (Some c.in-Some.value) (s.registers c.args.r)
 target_stands g c s holds = register_held g.H.GcHeap.KIND c.args.store.now c.args.self.now _ s c.args.r (Some c.in-Some.value) c.self.view_is c.in-Some.ensures holds
 
 target_set : (g : given.Over) (c : After-find_object g) (s : State) → HoldsState g.H.GcHeap.KIND c.args.store.now c.args.self.now s → is_unset (given_register s c.args.r) ≡ false

@@ -1,7 +1,7 @@
 use Rattle.std.proofs.Common.{◌≡◌, false, Some, ap, sym, ◌∙◌, subst}
 use Rattle.gc_script.specs.declared.objects.Wanted.TheVariants as wanted
 use Rattle.gc_script.specs.Slots.{RunnerView, register_at}
-use Rattle.gc_script.specs.State.{State, HoldsState, Stands}
+use Rattle.gc_script.specs.State.{State, HoldsState, RegisterStands}
 use Rattle.gc_script.specs.Given.{given_register, is_unset}
 use Rattle.gc_script.specs.Named.{FoundObject}
 use Rattle.gc_script.proofs.StandLemmas.{holds_table}
@@ -12,9 +12,9 @@ use Rattle.gc_script.proofs.runner.Runner.throw.Goals as goal
 use Rattle.gc_script.proofs.runner.Runner.throw.Goals.{In-Some, In-Ok}
 
 -- what the register holds
-stands : (g : given.Over) (c : In-Some g) (s : State) → HoldsState g.H.GcHeap.KIND c.args.store.now c.args.self.now s → Stands c.args.store.now s.table (Some c.in-Some.value) (s.registers c.args.r)
+stands : (g : given.Over) (c : In-Some g) (s : State) → HoldsState g.H.GcHeap.KIND c.args.store.now c.args.self.now s → RegisterStands c.args.store.now s.table (Some c.in-Some.value) (s.registers c.args.r)
 stands g c s holds =
-    subst (λ (x : _). Stands c.args.store.now s.table x (s.registers c.args.r)) (ap (λ (x : RunnerView). register_at x.registers c.args.r) (sym c.self.view_is) ∙ sym c.in-Some.ensures) (holds.registers c.args.r)
+    subst (λ (x : _). RegisterStands c.args.store.now s.table x (s.registers c.args.r)) (ap (λ (x : RunnerView). register_at x.registers c.args.r) (sym c.self.view_is) ∙ sym c.in-Some.ensures) (holds.registers c.args.r)
 
 set : (g : given.Over) (c : In-Some g) (s : State) → HoldsState g.H.GcHeap.KIND c.args.store.now c.args.self.now s → is_unset (given_register s c.args.r) ≡ false
 set g c s holds = is_set c.args.store.now s.table c.in-Some.value (s.registers c.args.r) (stands g c s holds)

@@ -1,6 +1,6 @@
 use Rattle.std.proofs.Common.{◌≡◌, true, sym, ◌∙◌, ap}
 use Rattle.gc_model.specs.Stores.{StoreView}
-use Rattle.gc_owner.specs.Owners.{kind_of}
+use Rattle.gc_owner.specs.Owners.{heap_kind}
 use Rattle.gc_store.specs.Stores.{store_view, tables_of}
 use Rattle.gc_store.proofs.CollectedStores.{sound_collected}
 use Rattle.gc_store.proofs.Suspending.{collected_from, nothing_collected}
@@ -22,7 +22,7 @@ invariant_of-self g c =
 pub returns-then-is_made : goal.returns-then-is_made
 returns-then-is_made g c =
     let at = (goal.at.returns-then-is_made g c).After-collect in
-    collected_from (kind_of g.H.GcHeap.KIND g.H.GcHeap.seen g.H.GcHeap.sound g.H.GcHeap.under_way) c.self.inside.id c.self.inside.config (tables_of c.self.inside.interned c.self.inside.asked) c.self.inside.tries c.args.self.now c.self.inside.owner.seen c.collect.new.self.seen
+    collected_from (heap_kind g.H.GcHeap.KIND g.H.GcHeap.seen g.H.GcHeap.sound g.H.GcHeap.under_way) c.self.inside.id c.self.inside.config (tables_of c.self.inside.interned c.self.inside.asked) c.self.inside.tries c.args.self.now c.self.inside.owner.seen c.collect.new.self.seen
     (record { shows = c.self.view_is; in_frames = c.is_ready.ensures.frames; is_heap = c.is_ready.ensures.heap; attached = attached g at }) c.collect.ensures
 
 pub returns-else-is_made : goal.returns-else-is_made

@@ -1,7 +1,7 @@
 use Rattle.std.proofs.Common.{◌≡◌, true, refl, sym, ◌∙◌, ap, subst}
 use Rattle.gc_model.specs.Stores.{StoreView}
 use Rattle.gc_model.specs.Holds.{HoldsTable}
-use Rattle.gc_owner.specs.Owners.{kind_of}
+use Rattle.gc_owner.specs.Owners.{heap_kind}
 use Rattle.gc_store.specs.Stores.{store_view, tables_of}
 use Rattle.gc_store.proofs.CollectedStores.{sound_collected}
 use Rattle.gc_store.proofs.Incrementing.{takes_made, takes_none}
@@ -24,7 +24,7 @@ invariant_of-self g c =
 pub returns-then-is_made-clause-collected : goal.returns-then-is_made-clause-collected
 returns-then-is_made-clause-collected g c =
     let at = (goal.at.returns-then-is_made-clause-collected g c).After-collect_by_increments in
-    collected_from (kind_of g.H.GcHeap.KIND g.H.GcHeap.seen g.H.GcHeap.sound g.H.GcHeap.under_way) c.self.inside.id c.self.inside.config (tables_of c.self.inside.interned c.self.inside.asked) c.self.inside.tries c.args.self.now c.self.inside.owner.seen c.collect_by_increments.new.owner.seen
+    collected_from (heap_kind g.H.GcHeap.KIND g.H.GcHeap.seen g.H.GcHeap.sound g.H.GcHeap.under_way) c.self.inside.id c.self.inside.config (tables_of c.self.inside.interned c.self.inside.asked) c.self.inside.tries c.args.self.now c.self.inside.owner.seen c.collect_by_increments.new.owner.seen
     (record { shows = c.self.view_is; in_frames = c.is_ready.ensures.frames; is_heap = c.is_ready.ensures.heap; attached = attached g at }) c.collect_by_increments.ensures.collects
 
 pub returns-else-is_made-clause-collected : goal.returns-else-is_made-clause-collected

@@ -3,7 +3,7 @@ use Rattle.std.specs.FinMap.{len}
 use Rattle.gc_view.specs.Heaps.{HeapView}
 use Rattle.gc_model.specs.Reach.{HasNumber, IsKept}
 use Rattle.gc_model.specs.Stores.{StoreView}
-use Rattle.gc_policy.specs.Collects.{IsPlaced}
+use Rattle.gc_policy.specs.Collects.{HasPlace}
 use Rattle.gc_policy.proofs.HeldNumber.{held_number, kept_number}
 use Rattle.gc_store.proofs.store.Store.held_objects.Goals as goal
 
@@ -12,7 +12,7 @@ pub returns-clause-placed : goal.returns-clause-placed
 returns-clause-placed g c = λ t place holds.
     let count : c.object_count.result ≡ len c.args.self.now.heap.content =
     c.object_count.ensures ∙ ap (λ (h : HeapView). len h.content) c.heap.ensures.seen ∙ ap (λ (s : StoreView g.row.D.Denot). len s.heap.content) c.self.view_is in
-    subst (HasNumber (IsPlaced place)) (sym count) (held_number g.H.GcHeap.KIND c.args.self.now t place holds)
+    subst (HasNumber (HasPlace place)) (sym count) (held_number g.H.GcHeap.KIND c.args.self.now t place holds)
 
 -- src/collect.rt:34:5
 pub returns-clause-kept : goal.returns-clause-kept

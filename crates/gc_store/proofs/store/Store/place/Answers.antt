@@ -24,7 +24,7 @@ use Rattle.gc_values.specs.declared.root.GcRootIndex.{GcRootIndex}
 use Rattle.gc_values.specs.declared.root.RootSlot.TheVariants as slot
 use Rattle.gc_values.specs.Filling.{asked_type, front_of, ContentsFit, ContentsStand, FillsBy, IsToFill}
 use Rattle.gc_values.specs.Making.{BeginsMaking, IsSizeOf, MakesRooted, TellsSize, described_by}
-use Rattle.gc_values.specs.Interning.{CanInternAll, HaveAllIdsLeft, InternsAll, MakesRooms, given_values, ids_of}
+use Rattle.gc_values.specs.Interning.{CanInternAll, HaveAllIdsLeft, InternsAll, MakesRooms, request_values, ids_of}
 use Rattle.gc_store.specs.Places.{Places, PlacesObject, HasIds}
 use Rattle.gc_values.specs.RawValues.{raw_side_values}
 use Rattle.gc_store.specs.Requests.{CanPlaceIn, IsObjectOf}
@@ -71,7 +71,7 @@ asked_view g c t o is = subst (λ (s : StoreView g.row.D.Denot). IsObjectOf s t 
 
 -- what was given, and the room that was made for its function values and continuations
 abbrev given_of : (g : given.Over) (c : After-is_ready g) → SideValues
-given_of g c = raw_side_values (given_values c.args.request c.args.contents)
+given_of g c = raw_side_values (request_values c.args.request c.args.contents)
 
 given_is : (g : given.Over) (c : After-find_room g) → raw_side_values c.given_values-given.result.now ≡ given_of g (goal.at.After-find_room g c).After-is_ready
 given_is g c = ap raw_side_values c.given_values-given.ensures
@@ -212,13 +212,13 @@ room g c =
 
 -- the function values of what is asked, with room for one more root
 side_values_now : (g : given.Over) (c : After-is_err g) (t : Table g.row.D.Denot) (place : Placing) (o : Object g.row.D.Denot) → Holds g.H.GcHeap.KIND (store_now g c) t place → IsObjectOf (store_now g c) t c.args.request c.args.contents o
-    → (known : SideValues) → with_side_values (raw_side_values (given_values c.args.request c.args.contents)) known ≡ with_side_values (side_values (object_values o)) known
+    → (known : SideValues) → with_side_values (raw_side_values (request_values c.args.request c.args.contents)) known ≡ with_side_values (side_values (object_values o)) known
 side_values_now g c t place o holds is =
     asked_side_values g.row.D.Denot g.H.GcHeap.KIND (store_now g c) c.self.invariant.table (start_of g c).holds.place (start_of g c).holds.holds c.args.request c.args.contents (can g c) t place o holds is
 
 has_ids_now : (g : given.Over) (c : After-is_err g) (t : Table g.row.D.Denot) (place : Placing) (o : Object g.row.D.Denot) → Holds g.H.GcHeap.KIND (store_now g c) t place → IsObjectOf (store_now g c) t c.args.request c.args.contents o → HasIds o t
 has_ids_now g c t place o holds is =
-    left_ids t o (raw_side_values (given_values c.args.request c.args.contents)) (side_values_now g c t place o holds is t.interned) (ids_of c.self.inside.interned) holds.interned (ids_left g (goal.at.After-is_err g c).After-object_size)
+    left_ids t o (raw_side_values (request_values c.args.request c.args.contents)) (side_values_now g c t place o holds is t.interned) (ids_of c.self.inside.interned) holds.interned (ids_left g (goal.at.After-is_err g c).After-object_size)
 
 -- what was made, where the owner stood in one state and came to another
 abbrev start : (g : given.Over) (c : After-make_object g) → OwnerState g.row.D.Denot
@@ -296,10 +296,10 @@ intern_all-requires g c =
     subst (CanInternAll c.find_room.new.interned) (sym (given_is g (goal.at.After-object_size g at).After-find_room))
     (rooms_can c.self.inside.interned c.find_room.new.interned (given_of g (goal.at.After-object_size g at).After-is_ready) (room_made g at) c.self.invariant.table.interned c.self.invariant.holds.holds.interned)
 
-interned : (g : given.Over) (c : After-holder_of-holder g) → InternsAll (ids_of c.self.inside.interned) (ids_of c.intern_all.new.interned) (raw_side_values (given_values c.args.request c.args.contents))
+interned : (g : given.Over) (c : After-holder_of-holder g) → InternsAll (ids_of c.self.inside.interned) (ids_of c.intern_all.new.interned) (raw_side_values (request_values c.args.request c.args.contents))
 interned g c =
     let at = sized_of g (goal.at.After-holder_of-holder g c).In-Ok in
-    subst (λ (ids : InternedIds). InternsAll ids (ids_of c.intern_all.new.interned) (raw_side_values (given_values c.args.request c.args.contents))) (same_ids g at)
+    subst (λ (ids : InternedIds). InternsAll ids (ids_of c.intern_all.new.interned) (raw_side_values (request_values c.args.request c.args.contents))) (same_ids g at)
     (subst (InternsAll (ids_of c.find_room.new.interned) (ids_of c.intern_all.new.interned)) (given_is g (goal.at.After-object_size g at).After-find_room) c.intern_all.ensures)
 
 pub fill-requires-clause-idle : goal.fill-requires-clause-idle
@@ -324,7 +324,7 @@ fills_of g c =
     subst (λ (n : ℕ). IsToFill g.H.GcHeap.KIND c.make_object.new.owner.seen n (asked_type c.args.request) (ContentsFit (ids_of c.intern_all.new.interned) c.args.request c.args.contents) (new g err).blank (new g err).shape (new g err).count) (sym (holder_is g c))
     (may_fill g.H.GcHeap.KIND (view g (first_of g err)) c.reserve.new.self.seen c.args.request c.args.contents (new g err) (g.L.ResourceLimiter.limits c.args.limiter.now) c.self.invariant.table c.self.invariant.account is
     (asked_of g err c.self.invariant.table is.holds.place is.holds.holds) (ids_of c.intern_all.new.interned)
-    (interned_ids (ids_of c.self.inside.interned) (ids_of c.intern_all.new.interned) (raw_side_values (given_values c.args.request c.args.contents)) c.self.invariant.table.interned c.self.invariant.holds.holds.interned (interned g c))
+    (interned_ids (ids_of c.self.inside.interned) (ids_of c.intern_all.new.interned) (raw_side_values (request_values c.args.request c.args.contents)) c.self.invariant.table.interned c.self.invariant.holds.holds.interned (interned g c))
     c.count_allocation-is_due.result p.0 p.1.0 (made_state g (made_of g ok)) c.in-Ok.index p.1.1)
 
 pub fill-requires-clause-can : goal.fill-requires-clause-can

@@ -19,7 +19,7 @@ use Rattle.gc_store.specs.declared.hosts.PlaceHostFault.{PlaceHostFault}
 use Rattle.gc_values.specs.declared.root.GcRootIndex.{GcRootIndex}
 use Rattle.gc_values.specs.declared.root.RootSlot.TheVariants as slot
 use Rattle.gc_store.specs.HostPlaces.{PlacesHost}
-use Rattle.gc_store.specs.HostSteps.{MakesHost}
+use Rattle.gc_store.specs.HostSteps.{MakesRootedHost}
 use Rattle.gc_store.proofs.HostPlacing.{host_follows, host_fault_follows, host_leaves, host_keeps}
 use Rattle.gc_values.proofs.Keeping.{counts_of}
 use Rattle.gc_store.proofs.Preparing.{IsReadyStore, reserved_store}
@@ -82,8 +82,8 @@ abbrev made_state : (g : given.Over) (c : Joined-make_host g) → OwnerState g.r
 made_state g c = state_of c.make_host.new.owner.seen (g.L.ResourceLimiter.limits c.make_host.new.limiter)
 
 made : (g : given.Over) (c : Joined-make_host g) (r : Result ℕ (PlaceHostFault g.row.D.Denot)) → c.make_host.result ≡ r
-    → MakesHost g.H.GcHeap.KIND c.args.value c.self.inside.config.first_pages c.count_allocation-is_due.result (start g c) (made_state g c) r
-made g c r is = subst (λ (x : Result ℕ (PlaceHostFault g.row.D.Denot)). MakesHost g.H.GcHeap.KIND c.args.value c.self.inside.config.first_pages c.count_allocation-is_due.result (start g c) (made_state g c) x) is c.make_host.ensures
+    → MakesRootedHost g.H.GcHeap.KIND c.args.value c.self.inside.config.first_pages c.count_allocation-is_due.result (start g c) (made_state g c) r
+made g c r is = subst (λ (x : Result ℕ (PlaceHostFault g.row.D.Denot)). MakesRootedHost g.H.GcHeap.KIND c.args.value c.self.inside.config.first_pages c.count_allocation-is_due.result (start g c) (made_state g c) x) is c.make_host.ensures
 
 due_is : (g : given.Over) (c : Joined-make_host g) → c.count_allocation-is_due.result ≡ is_due (option_map non_zero_u32_get c.self.inside.config.alloc_counter) (min (c.self.inside.tries + 1) (2 ^ 64 - 1))
 due_is g c = c.count_allocation-is_due.ensures.due ∙ ap (is_due (option_map non_zero_u32_get c.self.inside.config.alloc_counter)) c.count_allocation-is_due.ensures.counted

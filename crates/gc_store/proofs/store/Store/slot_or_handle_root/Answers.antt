@@ -4,7 +4,7 @@ use Rattle.gc_owner.specs.declared.entry.SlotEntry.{SlotEntry}
 use Rattle.gc_policy.specs.Shown.{frames_of}
 use Rattle.gc_policy.proofs.Frames.{frame_words}
 use Rattle.gc_model.specs.Stores.{StoreView}
-use Rattle.gc_store.specs.RootWords.{slot_words, slot_roots, handle_roots}
+use Rattle.gc_store.specs.RootWords.{slot_words, slot_roots, handle_root_words}
 use Rattle.gc_store.proofs.RootNumbers.{slot_front, slot_behind}
 use Rattle.gc_store.proofs.store.Store.slot_or_handle_root.Given as given
 use Rattle.gc_store.proofs.store.Store.slot_or_handle_root.Goals as goal
@@ -18,9 +18,9 @@ words : (g : given.Over) (c : After-slots-slots g) → flat_map slot_words (fram
 words g c = frame_words c.self.inside.owner.seen.roots.slots c.self.inside.owner.seen.roots.frames c.is_ready.ensures.frames ∙ ap slot_words (sym c.slots-slots.ensures)
 
 -- what stands at a number, as the store is seen
-seen : (g : given.Over) (c : After-slots-slots g) → slice_get (slot_roots 0 (frames g c) ++ handle_roots c.self.inside.owner.seen.roots.owned c.self.inside.owner.seen.roots.scoped) c.args.number
-    ≡ slice_get (slot_roots 0 c.args.self.now.frames ++ handle_roots c.args.self.now.owned c.args.self.now.scoped) c.args.number
-seen g c = ap (λ (s : StoreView g.row.D.Denot). slice_get (slot_roots 0 s.frames ++ handle_roots s.owned s.scoped) c.args.number) c.self.view_is
+seen : (g : given.Over) (c : After-slots-slots g) → slice_get (slot_roots 0 (frames g c) ++ handle_root_words c.self.inside.owner.seen.roots.owned c.self.inside.owner.seen.roots.scoped) c.args.number
+    ≡ slice_get (slot_roots 0 c.args.self.now.frames ++ handle_root_words c.args.self.now.owned c.args.self.now.scoped) c.args.number
+seen g c = ap (λ (s : StoreView g.row.D.Denot). slice_get (slot_roots 0 s.frames ++ handle_root_words s.owned s.scoped) c.args.number) c.self.view_is
 
 pub returns-then-number-slots : goal.returns-then-number-slots
 returns-then-number-slots g c =
@@ -33,6 +33,6 @@ pub returns : goal.returns
 returns g c =
     let at = (goal.at.returns g c).After-slots-slots in
     c.handle_root.ensures
-    ∙ (λ i. slice_get (handle_roots (c.owned.ensures i) (c.scoped.ensures i)) (c.args.number - length c.slots-slots.result.now))
+    ∙ (λ i. slice_get (handle_root_words (c.owned.ensures i) (c.scoped.ensures i)) (c.args.number - length c.slots-slots.result.now))
     ∙ sym (slot_behind (frames g at) c.slots-slots.result.now _ c.args.number (words g at) c.if-number-slots.false)
     ∙ seen g at

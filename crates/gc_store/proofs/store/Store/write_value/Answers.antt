@@ -3,7 +3,7 @@ use Rattle.std.specs.FinMap as finite
 use Rattle.gc_types.specs.Declarations.{TypeTable, Declaration}
 use Rattle.gc_view.specs.Heaps.{HeapObject, HeapView}
 use Rattle.gc_heap.specs.Heap.{put_object, with_data}
-use Rattle.gc_values.specs.Words.{HandleRoots, handle_roots, AreRising}
+use Rattle.gc_values.specs.Words.{HandleRoots, handle_roots, AreOwnedRising}
 use Rattle.gc_owner.specs.Owners.{OwnerView}
 use Rattle.gc_policy.specs.Accounts.{Account, HoldsAccount}
 use Rattle.gc_model.specs.Stored.{stored}
@@ -11,7 +11,7 @@ use Rattle.gc_model.specs.Table.{Table, write}
 use Rattle.gc_model.specs.Stores.{StoreView}
 use Rattle.gc_model.specs.Holds.{InternedIds}
 use Rattle.gc_values.specs.Filling.{slot_bytes}
-use Rattle.gc_values.specs.Kept.{code_of, KeptAs, IsKept}
+use Rattle.gc_values.specs.Kept.{kept_code, KeptAs, CanBeKept}
 use Rattle.gc_values.specs.HeldSlots.{FindsHeldSlot, IsHeldWithSlot}
 use Rattle.gc_store.specs.Roots.{word_of}
 use Rattle.gc_store.specs.Values.{CanWrite, KeepsValue, WritesValue}
@@ -19,7 +19,7 @@ use Rattle.gc_values.specs.RawValues.{raw_side_values}
 use Rattle.gc_values.specs.declared.faults.WriteFault.{WriteFault}
 use Rattle.gc_store.proofs.PlacingIds.{refused_value}
 use Rattle.gc_store.proofs.SameRoots.{same_err}
-use Rattle.gc_store.specs.Stores.{IsSound, store_view, tables_by, tables_of}
+use Rattle.gc_store.specs.Stores.{IsSoundStore, store_view, tables_by, tables_of}
 use Rattle.gc_values.specs.Interning.{ids_of, HaveAllIdsLeft, InternsAll}
 use Rattle.gc_values.proofs.EachValue.{are_words, kept_of_form}
 use Rattle.gc_values.proofs.GivenValues.{given_refused}
@@ -82,14 +82,14 @@ interned : (g : given.Over) (c : After-slot_in-slot g) → InternsAll (ids_of c.
 interned g c = c.in_ok-intern_given-in-Ok.ensures.interns.0
 
 pub stored_value-stored-requires-clause-rising : goal.stored_value-stored-requires-clause-rising
-stored_value-stored-requires-clause-rising g c = subst AreRising (sym c.owned.ensures) c.self.invariant.holds.holds.owned.rising
+stored_value-stored-requires-clause-rising g c = subst AreOwnedRising (sym c.owned.ensures) c.self.invariant.holds.holds.owned.rising
 
 pub stored_value-stored-requires-clause-kept : goal.stored_value-stored-requires-clause-kept
 stored_value-stored-requires-clause-kept g c =
     let slot = (goal.at.stored_value-stored-requires-clause-kept g c).After-slot_in-slot in
     let at = (goal.at.After-slot_in-slot g slot).In-Ok in
     let same : record { scoped = c.scoped.result.now; owned = c.owned.result.now } ≡ handle_roots c.self.inside.owner.seen.roots = λ i. record { scoped = c.scoped.ensures i; owned = c.owned.ensures i } in
-    subst (λ (es : HandleRoots). IsKept (ids_of c.intern_given.new.interned) es c.args.value) (sym same)
+    subst (λ (es : HandleRoots). CanBeKept (ids_of c.intern_given.new.interned) es c.args.value) (sym same)
     (spot_kept _ _ (view g at) c.args.handle c.args.index c.args.value (can g at) c.in-Ok.word (word_at g at) c.slot_in-slot.result (finds g slot) (ids_of c.intern_given.new.interned) (interned g slot))
 
 kept_is : (g : given.Over) (c : After-stored_value-stored g) → KeptAs (ids_of c.intern_given.new.interned) (handle_roots c.self.inside.owner.seen.roots) c.args.value c.stored_value-stored.result
@@ -126,16 +126,16 @@ write_slot-requires-clause-can g c =
 
 -- the owner has the new bytes
 written : (g : given.Over) (c : After-write_slot g) (object : HeapObject) → finite.get c.self.inside.owner.seen.heap.content c.in-Ok.word ≡ Some object
-    → c.write_slot.new.owner.seen ≡ record c.self.inside.owner.seen { heap = record (put_object c.self.inside.owner.seen.heap c.in-Ok.word (with_data g.H.GcHeap.KIND object c.slot_in-slot.result.offset (slot_bytes c.slot_in-slot.result.storage (code_of c.stored_value-stored.result)))) { counts = c.write_slot.new.owner.seen.heap.counts } }
+    → c.write_slot.new.owner.seen ≡ record c.self.inside.owner.seen { heap = record (put_object c.self.inside.owner.seen.heap c.in-Ok.word (with_data g.H.GcHeap.KIND object c.slot_in-slot.result.offset (slot_bytes c.slot_in-slot.result.storage (kept_code c.stored_value-stored.result)))) { counts = c.write_slot.new.owner.seen.heap.counts } }
 written g c object held =
     let stored = (goal.at.After-write_slot g c).After-stored_value-stored in
     let slot = (goal.at.After-stored_value-stored g stored).After-slot_in-slot in
     let same = same_word g (goal.at.After-slot_in-slot g slot).After-unwrap-gc_ref in
     c.write_slot.ensures object (ap (finite.get c.self.inside.owner.seen.heap.content) same ∙ held)
-    ∙ ap (λ (w : ℕ). record c.self.inside.owner.seen { heap = record (put_object c.self.inside.owner.seen.heap w (with_data g.H.GcHeap.KIND object c.slot_in-slot.result.offset (slot_bytes c.slot_in-slot.result.storage (code_of c.stored_value-stored.result)))) { counts = c.write_slot.new.owner.seen.heap.counts } }) same
+    ∙ ap (λ (w : ℕ). record c.self.inside.owner.seen { heap = record (put_object c.self.inside.owner.seen.heap w (with_data g.H.GcHeap.KIND object c.slot_in-slot.result.offset (slot_bytes c.slot_in-slot.result.storage (kept_code c.stored_value-stored.result)))) { counts = c.write_slot.new.owner.seen.heap.counts } }) same
 
 heap_written : (g : given.Over) (c : After-write_slot g) (object : HeapObject) → finite.get c.self.inside.owner.seen.heap.content c.in-Ok.word ≡ Some object
-    → c.write_slot.new.owner.seen.heap ≡ record (put_object c.self.inside.owner.seen.heap c.in-Ok.word (with_data g.H.GcHeap.KIND object c.slot_in-slot.result.offset (slot_bytes c.slot_in-slot.result.storage (code_of c.stored_value-stored.result)))) { counts = c.write_slot.new.owner.seen.heap.counts }
+    → c.write_slot.new.owner.seen.heap ≡ record (put_object c.self.inside.owner.seen.heap c.in-Ok.word (with_data g.H.GcHeap.KIND object c.slot_in-slot.result.offset (slot_bytes c.slot_in-slot.result.storage (kept_code c.stored_value-stored.result)))) { counts = c.write_slot.new.owner.seen.heap.counts }
 heap_written g c object held = ap (λ (v : OwnerView g.row.D.Denot). v.heap) (written g c object held)
 
 -- nothing but the heap changed
@@ -160,7 +160,7 @@ later_is g c = ap (λ (v : OwnerView g.row.D.Denot). store_view c.self.inside.id
 pub invariant_of-self : goal.invariant_of-self
 invariant_of-self g c =
     let same = given_refused (ids_of c.self.inside.interned) (ids_of c.intern_given.new.interned) (raw_side_values (c.args.value ∷ [])) c.in_err-intern_given-in-Ok.field-0.0 c.in_err-intern_given-in-Ok.ensures.interns in
-    subst (λ (ids : InternedIds). IsSound g.row.D.Denot g.H.GcHeap.KIND c.self.inside.slot_counts.items c.self.inside.owner.seen (store_view c.self.inside.id c.self.inside.config (tables_by ids c.self.inside.asked) c.self.inside.owner.seen c.self.inside.tries)) (sym same) c.self.invariant
+    subst (λ (ids : InternedIds). IsSoundStore g.row.D.Denot g.H.GcHeap.KIND c.self.inside.slot_counts.items c.self.inside.owner.seen (store_view c.self.inside.id c.self.inside.config (tables_by ids c.self.inside.asked) c.self.inside.owner.seen c.self.inside.tries)) (sym same) c.self.invariant
 
 pub invariant_of-self-in-Ok : goal.invariant_of-self-in-Ok
 invariant_of-self-in-Ok g c =

@@ -1,5 +1,5 @@
 use Rattle.std.proofs.Common.{◌≡◌, Bool, true, false, sym, ap, ◌∙◌, subst}
-use Rattle.gc_owner.specs.Owners.{Kind, kind_of}
+use Rattle.gc_owner.specs.Owners.{Kind, heap_kind}
 use Rattle.gc_model.specs.Stores.{StoreView}
 use Rattle.gc_store.specs.Suspensions.{SuspendedView, IsSuspended}
 use Rattle.gc_store.specs.Collectings.{IsAsked}
@@ -10,7 +10,7 @@ use Rattle.gc_store.specs.Stores.{tables_of}
 use Rattle.gc_store.proofs.suspended.Suspended.begin.Goals.{After-is_made}
 
 abbrev kind : (g : Over) → Kind g.row.H.Denot g.row.H-State.Denot
-kind g = kind_of g.H.GcHeap.KIND g.H.GcHeap.seen g.H.GcHeap.sound g.H.GcHeap.under_way
+kind g = heap_kind g.H.GcHeap.KIND g.H.GcHeap.seen g.H.GcHeap.sound g.H.GcHeap.under_way
 
 abbrev Suspension : Over → Type 0
 Suspension g = SuspendedView g.row.H.Denot g.row.H-State.Denot g.row.D.Denot

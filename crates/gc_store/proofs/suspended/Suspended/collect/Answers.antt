@@ -1,12 +1,12 @@
 use Rattle.std.proofs.Common.{ap, ◌∙◌}
-use Rattle.gc_owner.specs.Owners.{Kind, kind_of}
+use Rattle.gc_owner.specs.Owners.{Kind, heap_kind}
 use Rattle.gc_store.specs.Suspensions.{SuspendedView}
 use Rattle.gc_store.proofs.Stepping.{collects_open}
 use Rattle.gc_store.proofs.suspended.Suspended.collect.Given.{Over}
 use Rattle.gc_store.proofs.suspended.Suspended.collect.Goals as goal
 
 abbrev kind : (g : Over) → Kind g.row.H.Denot g.row.H-State.Denot
-kind g = kind_of g.H.GcHeap.KIND g.H.GcHeap.seen g.H.GcHeap.sound g.H.GcHeap.under_way
+kind g = heap_kind g.H.GcHeap.KIND g.H.GcHeap.seen g.H.GcHeap.sound g.H.GcHeap.under_way
 
 abbrev Suspension : Over → Type 0
 Suspension g = SuspendedView g.row.H.Denot g.row.H-State.Denot g.row.D.Denot

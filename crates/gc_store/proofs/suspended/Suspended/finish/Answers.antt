@@ -1,5 +1,5 @@
 use Rattle.std.proofs.Common.{sym, subst}
-use Rattle.gc_owner.specs.Owners.{Kind, kind_of}
+use Rattle.gc_owner.specs.Owners.{Kind, heap_kind}
 use Rattle.gc_store.specs.Suspensions.{SuspendedView}
 use Rattle.gc_store.specs.Collectings.{IsRunning}
 use Rattle.gc_store.proofs.Suspending.{with_owner, ends_suspended, closes}
@@ -8,7 +8,7 @@ use Rattle.gc_store.specs.Stores.{tables_of}
 use Rattle.gc_store.proofs.suspended.Suspended.finish.Goals as goal
 
 abbrev kind : (g : Over) → Kind g.row.H.Denot g.row.H-State.Denot
-kind g = kind_of g.H.GcHeap.KIND g.H.GcHeap.seen g.H.GcHeap.sound g.H.GcHeap.under_way
+kind g = heap_kind g.H.GcHeap.KIND g.H.GcHeap.seen g.H.GcHeap.sound g.H.GcHeap.under_way
 
 pub invariant_of-self : goal.invariant_of-self
 invariant_of-self g c =

@@ -1,5 +1,5 @@
 use Rattle.std.proofs.Common.{◌<◌, ap, ◌∙◌, subst}
-use Rattle.gc_owner.specs.Owners.{Kind, kind_of}
+use Rattle.gc_owner.specs.Owners.{Kind, heap_kind}
 use Rattle.gc_owner.specs.Going.{left_of}
 use Rattle.gc_store.specs.Suspensions.{SuspendedView}
 use Rattle.gc_store.proofs.Stepping.{increments_open}
@@ -7,7 +7,7 @@ use Rattle.gc_store.proofs.suspended.Suspended.increment.Given.{Over}
 use Rattle.gc_store.proofs.suspended.Suspended.increment.Goals as goal
 
 abbrev kind : (g : Over) → Kind g.row.H.Denot g.row.H-State.Denot
-kind g = kind_of g.H.GcHeap.KIND g.H.GcHeap.seen g.H.GcHeap.sound g.H.GcHeap.under_way
+kind g = heap_kind g.H.GcHeap.KIND g.H.GcHeap.seen g.H.GcHeap.sound g.H.GcHeap.under_way
 
 abbrev Suspension : Over → Type 0
 Suspension g = SuspendedView g.row.H.Denot g.row.H-State.Denot g.row.D.Denot

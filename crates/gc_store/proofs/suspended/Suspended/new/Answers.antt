@@ -1,12 +1,12 @@
 use Rattle.std.proofs.Common.{inl, refl}
-use Rattle.gc_owner.specs.Owners.{Kind, kind_of}
+use Rattle.gc_owner.specs.Owners.{Kind, heap_kind}
 use Rattle.gc_store.proofs.Suspending.{asks, waits_trimmed}
 use Rattle.gc_store.proofs.suspended.Suspended.new.Given.{Over}
 use Rattle.gc_store.specs.Stores.{tables_of}
 use Rattle.gc_store.proofs.suspended.Suspended.new.Goals as goal
 
 abbrev kind : (g : Over) → Kind g.row.H.Denot g.row.H-State.Denot
-kind g = kind_of g.H.GcHeap.KIND g.H.GcHeap.seen g.H.GcHeap.sound g.H.GcHeap.under_way
+kind g = heap_kind g.H.GcHeap.KIND g.H.GcHeap.seen g.H.GcHeap.sound g.H.GcHeap.under_way
 
 pub invariant_of-result : goal.invariant_of-result
 invariant_of-result g c =
