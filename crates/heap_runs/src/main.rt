@@ -1,18 +1,30 @@
 //! What heaps keep and free of graphs of objects that a mutator makes: a table of cases, each run on the
-//! null, the counting and the copying heap. With the word `times` it measures the counting heap instead.
+//! null, the counting and the copying heap. Then what a heap with a host table does on each of them, a line a
+//! step: an object of each kind is made, read back and given back unused, each barrier is run, on an object and
+//! on a 31-bit number, and host values are lent, changed and handed back. With the word `times` it measures the
+//! counting heap instead.
 #![tactic(auto)]
 
+mod barriers;
 mod cases;
 mod count;
 mod fault;
+mod hosts;
+mod making;
 mod named;
+mod numbers;
+mod objects;
 mod room;
+mod showing;
+mod store_types;
+mod stores;
 mod times;
 
 use crate::cases::{CASES, Case};
 use crate::count::Outcome;
 use crate::fault::RunFault;
 use crate::room::Wanted;
+use crate::stores::run_stores;
 use crate::times::show_times;
 use gc_copying::CopyingHeap;
 use gc_drc::DrcHeap;
@@ -55,8 +67,8 @@ fn run_rooms(rt: &impl Print, alloc: Global) -> Result<(), RunFault> {
     show_room(rt, "null", 65_508, wanted)
 }
 
-/// Runs every case.
-fn run_all(rt: &impl Print, alloc: Global) -> Result<(), RunFault> {
+/// Runs every case of a mutator.
+fn run_cases(rt: &impl Print, alloc: Global) -> Result<(), RunFault> {
     for case in CASES {
         run_case(rt, alloc, case)?;
     }
@@ -71,5 +83,8 @@ fn main(rt: HostRuntime) -> Result<(), RunFault> {
             return show_times(&rt, alloc);
         }
     }
-    run_all(&rt, alloc)
+    println!(rt; "== mutators")?;
+    run_cases(&rt, alloc)?;
+    println!(rt; "== stores")?;
+    run_stores(&rt, alloc)
 }

@@ -1,10 +1,10 @@
 //! Each barrier on an object.
 
-ghost use Rattle.raw_store_runs.specs.Names.{HasNames};
+ghost use Rattle.heap_runs.specs.Names.{HasNames};
 
 use crate::fault::RunFault;
 use crate::making::{make_array, make_exception, make_struct};
-use crate::named::Named;
+use crate::store_types::StoreTypes;
 use crate::showing::show_count;
 use gc_heap::GcHeap;
 use gc_raw_store::{GcStore, RefBarriers};
@@ -24,9 +24,9 @@ pub(crate) fn copy_and_drop<H: GcHeap, R: RefBarriers>(store: &mut GcStore<H, u3
 fn run_words<H: GcHeap>(
     rt: &impl Print,
     store: &mut GcStore<H, u32>,
-    named: &Named,
+    types: &StoreTypes,
 ) -> Result<(), RunFault> {
-    let made = VMGcRef::from(make_struct(store, named)?);
+    let made = VMGcRef::from(make_struct(store, types)?);
     show_count(rt, store, "made", &made)?;
     let copy = store.clone_gc_ref(&made);
     show_count(rt, store, "cloned", &made)?;
@@ -48,9 +48,9 @@ fn run_words<H: GcHeap>(
 fn run_types<H: GcHeap>(
     rt: &impl Print,
     store: &mut GcStore<H, u32>,
-    named: &Named,
+    types: &StoreTypes,
 ) -> Result<(), RunFault> {
-    let pair = make_struct(store, named)?;
+    let pair = make_struct(store, types)?;
     copy_and_drop(store, &pair);
     show_count(rt, store, "a struct copied and dropped", pair.as_gc_ref())?;
     let typed: TypedGcRef<VMGcHeader> = TypedGcRef::new_unchecked(VMGcRef::from(pair));
@@ -61,10 +61,10 @@ fn run_types<H: GcHeap>(
         "a typed reference copied and dropped",
         typed.as_untyped(),
     )?;
-    let bytes = make_array(store, named)?;
+    let bytes = make_array(store, types)?;
     copy_and_drop(store, &bytes);
     show_count(rt, store, "an array copied and dropped", bytes.as_gc_ref())?;
-    let exception = make_exception(store, named)?;
+    let exception = make_exception(store, types)?;
     copy_and_drop(store, &exception);
     show_count(
         rt,
@@ -78,8 +78,8 @@ fn run_types<H: GcHeap>(
 pub(crate) fn run_barriers<H: GcHeap>(
     rt: &impl Print,
     store: &mut GcStore<H, u32>,
-    named: &Named,
+    types: &StoreTypes,
 ) -> Result<(), RunFault> {
-    run_words(rt, store, named)?;
-    run_types(rt, store, named)
+    run_words(rt, store, types)?;
+    run_types(rt, store, types)
 }

@@ -1,8 +1,8 @@
 use Rattle.gc_memory.specs.Offsets.{external_size}
 use Rattle.gc_heap.specs.Objects.{external}
 use Rattle.gc_raw_store.specs.Allocation.{AddsHost}
-use Rattle.raw_store_runs.proofs.NameLemmas.{names_added}
-use Rattle.raw_store_runs.proofs.making.make_external.Goals as goal
+use Rattle.heap_runs.proofs.NameLemmas.{names_added}
+use Rattle.heap_runs.proofs.making.make_external.Goals as goal
 
 pub returns-in-Ok-Ok : goal.returns-in-Ok-Ok
 returns-in-Ok-Ok g c =

@@ -1,6 +1,6 @@
 use Rattle.gc_raw_store.proofs.StoreLemmas.{number_named, number_unnamed}
-use Rattle.raw_store_runs.proofs.NameLemmas.{heap_still, number_in, number_slot, odd_as, odd_word}
-use Rattle.raw_store_runs.proofs.numbers.run_numbers.Goals as goal
+use Rattle.heap_runs.proofs.NameLemmas.{heap_still, number_in, number_slot, odd_as, odd_word}
+use Rattle.heap_runs.proofs.numbers.run_numbers.Goals as goal
 
 pub clone_gc_ref-copy-requires : goal.clone_gc_ref-copy-requires
 clone_gc_ref-copy-requires g c =

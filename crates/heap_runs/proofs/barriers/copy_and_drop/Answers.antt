@@ -1,6 +1,6 @@
 use Rattle.std.proofs.Common.{arith, refl}
-use Rattle.raw_store_runs.proofs.NameLemmas.{after_clone, after_drop, can_unname_as}
-use Rattle.raw_store_runs.proofs.barriers.copy_and_drop.Goals as goal
+use Rattle.heap_runs.proofs.NameLemmas.{after_clone, after_drop, can_unname_as}
+use Rattle.heap_runs.proofs.barriers.copy_and_drop.Goals as goal
 
 pub drop-requires : goal.drop-requires
 drop-requires g c =

@@ -4,10 +4,10 @@ ghost use Rattle.std.specs.Prelude.{◌≡◌, IfOk};
 ghost use Rattle.gc_types.specs.declared.kind.VMGcKind.TheVariants.{StructRef};
 ghost use Rattle.gc_view.specs.Heaps.{detached_in};
 ghost use Rattle.gc_heap.specs.Heap.{CanGiveBack, IsArray, IsStructOrExn};
-ghost use Rattle.raw_store_runs.specs.Names.{HasNames};
+ghost use Rattle.heap_runs.specs.Names.{HasNames};
 
 use crate::fault::RunFault;
-use crate::named::Named;
+use crate::store_types::StoreTypes;
 use gc_heap::{GcHeap, HeapFault, HeapMemory};
 use gc_raw_store::GcStore;
 use gc_refs::{VMArrayRef, VMExnRef, VMExternRef, VMGcHeader, VMGcRef, VMStructRef};
@@ -38,18 +38,18 @@ pub(crate) fn open_store<H: GcHeap + Drop>(
 /// Makes a struct.
 pub(crate) fn make_struct<H: GcHeap>(
     store: &mut GcStore<H, u32>,
-    named: &Named,
+    types: &StoreTypes,
 ) -> Result<VMStructRef, RunFault>
     ensures { IfOk result (λ r. CanGiveBack store.new.heap r IsStructOrExn) }
 {
-    let Some(layout) = named.types.struct_layout(H::KIND, named.pair) else {
+    let Some(layout) = types.table.struct_layout(H::KIND, types.pair) else {
         return Err(RunFault::NoType);
     };
     if layout.is_exception {
         return Err(RunFault::NoType);
     }
     store.is_stored();
-    match store.alloc_uninit_struct(named.pair, layout) {
+    match store.alloc_uninit_struct(types.pair, layout) {
         Ok(Ok(object)) => Ok(object),
         Ok(Err(need)) => Err(RunFault::NoRoom(need)),
         Err(fault) => Err(RunFault::Heap(fault)),
@@ -59,15 +59,15 @@ pub(crate) fn make_struct<H: GcHeap>(
 /// Makes an array.
 pub(crate) fn make_array<H: GcHeap>(
     store: &mut GcStore<H, u32>,
-    named: &Named,
+    types: &StoreTypes,
 ) -> Result<VMArrayRef, RunFault>
     ensures { IfOk result (λ r. CanGiveBack store.new.heap r IsArray) }
 {
-    let Some(layout) = named.types.array_layout(H::KIND, named.bytes) else {
+    let Some(layout) = types.table.array_layout(H::KIND, types.bytes) else {
         return Err(RunFault::NoType);
     };
     store.is_stored();
-    match store.alloc_uninit_array(named.bytes, LENGTH, layout) {
+    match store.alloc_uninit_array(types.bytes, LENGTH, layout) {
         Ok(Ok(array)) => Ok(array),
         Ok(Err(need)) => Err(RunFault::NoRoom(need)),
         Err(fault) => Err(RunFault::Heap(fault)),
@@ -77,18 +77,18 @@ pub(crate) fn make_array<H: GcHeap>(
 /// Makes an exception.
 pub(crate) fn make_exception<H: GcHeap>(
     store: &mut GcStore<H, u32>,
-    named: &Named,
+    types: &StoreTypes,
 ) -> Result<VMExnRef, RunFault>
     ensures { IfOk result (λ r. CanGiveBack store.new.heap r IsStructOrExn) }
 {
-    let Some(layout) = named.types.struct_layout(H::KIND, named.exception) else {
+    let Some(layout) = types.table.struct_layout(H::KIND, types.exception) else {
         return Err(RunFault::NoType);
     };
     if !layout.is_exception {
         return Err(RunFault::NoType);
     }
     store.is_stored();
-    match store.alloc_uninit_exn(named.exception, layout) {
+    match store.alloc_uninit_exn(types.exception, layout) {
         Ok(Ok(object)) => Ok(object),
         Ok(Err(need)) => Err(RunFault::NoRoom(need)),
         Err(fault) => Err(RunFault::Heap(fault)),
@@ -98,9 +98,9 @@ pub(crate) fn make_exception<H: GcHeap>(
 /// Makes a struct of `ONE_WORD` bytes by its header alone.
 pub(crate) fn make_raw<H: GcHeap>(
     store: &mut GcStore<H, u32>,
-    named: &Named,
+    types: &StoreTypes,
 ) -> Result<VMGcRef, RunFault> {
-    let header = VMGcHeader::from_kind_and_index(VMGcKind::StructRef, named.pair);
+    let header = VMGcHeader::from_kind_and_index(VMGcKind::StructRef, types.pair);
     match store.alloc_raw(header, ONE_WORD) {
         Ok(Ok(object)) => Ok(object),
         Ok(Err(need)) => Err(RunFault::NoRoom(need)),

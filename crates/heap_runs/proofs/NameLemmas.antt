@@ -14,7 +14,7 @@ use Rattle.gc_heap.specs.Heap.{AddsObject, CanGiveBack}
 use Rattle.gc_raw_store.specs.Stores.{GcStoreView, HoldsNoObject}
 use Rattle.gc_raw_store.proofs.StoreLemmas.{number_unnamed}
 use Rattle.gc_heap.proofs.GivenLemmas.{can_give_back}
-use Rattle.raw_store_runs.specs.Names.{HasNames}
+use Rattle.heap_runs.specs.Names.{HasNames}
 
 -- a new object has one name
 pub names_given : (h : HeapView) (place : ℕ) (K : VMGcKind → Type 0) → CanGiveBack h place K → HasNames h place 1

@@ -1,7 +1,7 @@
 use Rattle.std.proofs.Common.{ℕ, Some, None, ap, arith, refl, ◌∙◌}
 use Rattle.gc_heap.specs.Heap.{IsStructOrExn}
-use Rattle.raw_store_runs.proofs.NameLemmas.{after_clone, after_drop, after_null, after_put, can_name_as, can_unname_as, can_unname_slot, names_given}
-use Rattle.raw_store_runs.proofs.barriers.run_words.Goals as goal
+use Rattle.heap_runs.proofs.NameLemmas.{after_clone, after_drop, after_null, after_put, can_name_as, can_unname_as, can_unname_slot, names_given}
+use Rattle.heap_runs.proofs.barriers.run_words.Goals as goal
 
 pub init_gc_ref-requires-clause-source : goal.init_gc_ref-requires-clause-source
 init_gc_ref-requires-clause-source g c =
