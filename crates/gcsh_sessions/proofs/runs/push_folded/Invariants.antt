@@ -1,6 +1,6 @@
 use denote.Text.{Utf8}
 use denote.Shadow.{shadow}
-use Rattle.gcsh_sessions.proofs.runs.write_folded.Given as goal
+use Rattle.gcsh_sessions.proofs.runs.push_folded.Given as goal
 
 -- the line that is held back is text
 abbrev pub invariant-loop-line : goal.invariant-loop-line
