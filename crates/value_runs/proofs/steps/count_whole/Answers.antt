@@ -1,9 +1,9 @@
 use Rattle.std.proofs.Common.{◌≡◌, true, sym, subst, rules, ℕ}
 use Rattle.gc_model.specs.Stores.{StoreView}
 use Rattle.gc_store.specs.Collectings.{IsCollected}
-use Rattle.collecting_runs.proofs.steps.count_whole.Given.{Over}
-use Rattle.collecting_runs.proofs.steps.count_whole.Goals as goal
-use Rattle.collecting_runs.proofs.steps.count_whole.Goals.{After-drop-collecting}
+use Rattle.value_runs.proofs.steps.count_whole.Given.{Over}
+use Rattle.value_runs.proofs.steps.count_whole.Goals as goal
+use Rattle.value_runs.proofs.steps.count_whole.Goals.{After-drop-collecting}
 
 -- the store was collected, whatever the name of what stands in its place
 collected : (g : Over) (c : After-drop-collecting g) (v : StoreView ℕ) → v ≡ c.drop-collecting.new.self.0 → IsCollected g.H.GcHeap.KIND c.args.store.now v

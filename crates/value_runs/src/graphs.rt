@@ -4,7 +4,7 @@ ghost use Rattle.std.specs.Prelude.{IfOk};
 ghost use Rattle.gc_types.specs.declared.kind.TypeKind.{TypeKind};
 ghost use Rattle.gc_objects.specs.Kinds.{IsDeclaredAs};
 
-use crate::show::{show_path, show_report};
+use crate::entries::{show_path, show_report};
 use gc_heap::GcHeap;
 use gc_objects::{AnyRef, StructRef, StructRefPre, Val};
 use gc_path_to::path_to;
@@ -86,7 +86,11 @@ pub(crate) fn run_chain<H: GcHeap>(
     let first = first.root_index();
     let second = second.root_index();
     show_path(rt, "to the first", path_to(alloc, store, first))?;
-    show_path(rt, "to the second", path_to(alloc, store, second))
+    Ok(show_path(
+        rt,
+        "to the second",
+        path_to(alloc, store, second),
+    )?)
 }
 
 /// Handles to which no path leads: of an object that scoped roots alone name, of a number, and of a root that is gone.
@@ -100,7 +104,11 @@ pub(crate) fn run_without<H: GcHeap>(
     let number = store.push_i31(I31::wrapping_u32(7))?;
     show_path(rt, "to a number", path_to(alloc, store, number))?;
     store.exit_gc_lifo_scope(0);
-    show_path(rt, "to what is gone", path_to(alloc, store, garbage))
+    Ok(show_path(
+        rt,
+        "to what is gone",
+        path_to(alloc, store, garbage),
+    )?)
 }
 
 /// An object that two others name, one of which the other names first: its path is the shorter one.
@@ -114,7 +122,7 @@ pub(crate) fn run_shared<H: GcHeap>(
     let second = make(store, &[value_of(first), Val::AnyRef(None)])?;
     let third = make(store, &[value_of(second), value_of(first)])?;
     set_global(store, 0, third.root_index())?;
-    show_report(rt, "shared", all_paths(alloc, store, false))
+    Ok(show_report(rt, "shared", all_paths(alloc, store, false))?)
 }
 
 /// The order of roots of one length.
@@ -125,7 +133,11 @@ pub(crate) fn run_depth<H: GcHeap>(
 ) -> Result<()> {
     store.exit_gc_lifo_scope(0);
     make(store, &[Val::AnyRef(None), Val::AnyRef(None)])?;
-    show_report(rt, "with a scoped one", all_paths(alloc, store, true))
+    Ok(show_report(
+        rt,
+        "with a scoped one",
+        all_paths(alloc, store, true),
+    )?)
 }
 
 /// A store that has room for one scoped root less than its walks need.
@@ -144,9 +156,9 @@ pub(crate) fn run_few_roots<H: GcHeap>(
         all_paths(alloc, store, false),
     )?;
     store.exit_gc_lifo_scope(1);
-    show_report(
+    Ok(show_report(
         rt,
         "one stands, two more are needed",
         all_paths(alloc, store, false),
-    )
+    )?)
 }
