@@ -12,8 +12,7 @@ use gc_heap::{GcHeap, GcStoreTraceState, HeapMemory, NullHeap};
 use gc_roots::GcRootsList;
 use gc_tables::ExternRefHostDataTable;
 use gc_types::{FieldType, Layouts, Mutability, StorageType, Types, ValType};
-use std::alloc::Global;
-use std::io::Write;
+use std::alloc::{AllocError, Global};
 
 /// A field that holds a number of 32 bits.
 const NUMBER: FieldType = FieldType {
@@ -163,7 +162,7 @@ fn keep_in_copying<H: GcHeap>(
 }
 
 /// Writes the number that a heap of each kind kept, and what it has then.
-pub(crate) fn show_numbers<W: Write + Drop>(alloc: Global, out: &mut W) -> Result<(), KindFault> {
+pub(crate) fn show_numbers(alloc: Global, out: &mut String) -> Result<(), KindFault> {
     show_null(alloc, out)?;
     show_counting(alloc, out)?;
     show_copying(alloc, out)
@@ -182,16 +181,11 @@ fn number_in_null<H: GcHeap>(heap: &mut H, alloc: Global) -> Result<u32, KindFau
     keep_in_null(heap, alloc, &mut types, &mut roots, &mut hosts)
 }
 
-fn show_null<W: Write + Drop>(alloc: Global, out: &mut W) -> Result<(), KindFault> {
+fn show_null(alloc: Global, out: &mut String) -> Result<(), KindFault> {
     let mut heap = NullHeap::new(alloc);
     let kept = number_in_null(&mut heap, alloc)?;
-    show_number(
-        "null",
-        kept,
-        heap.object_count(),
-        heap.allocated_bytes(),
-        out,
-    )
+    let (objects, bytes) = (heap.object_count(), heap.allocated_bytes());
+    Ok(show_number("null", kept, objects, bytes, out)?)
 }
 
 /// The number that a new counting heap kept.
@@ -207,16 +201,11 @@ fn number_in_counting<H: GcHeap>(heap: &mut H, alloc: Global) -> Result<u32, Kin
     keep_in_counting(heap, alloc, &mut types, &mut roots, &mut hosts)
 }
 
-fn show_counting<W: Write + Drop>(alloc: Global, out: &mut W) -> Result<(), KindFault> {
+fn show_counting(alloc: Global, out: &mut String) -> Result<(), KindFault> {
     let mut heap = DrcHeap::new(alloc);
     let kept = number_in_counting(&mut heap, alloc)?;
-    show_number(
-        "counting",
-        kept,
-        heap.object_count(),
-        heap.allocated_bytes(),
-        out,
-    )
+    let (objects, bytes) = (heap.object_count(), heap.allocated_bytes());
+    Ok(show_number("counting", kept, objects, bytes, out)?)
 }
 
 /// The number that a new copying heap kept.
@@ -232,29 +221,23 @@ fn number_in_copying<H: GcHeap>(heap: &mut H, alloc: Global) -> Result<u32, Kind
     keep_in_copying(heap, alloc, &mut types, &mut roots, &mut hosts)
 }
 
-fn show_copying<W: Write + Drop>(alloc: Global, out: &mut W) -> Result<(), KindFault> {
+fn show_copying(alloc: Global, out: &mut String) -> Result<(), KindFault> {
     let mut heap = CopyingHeap::new(alloc);
     let kept = number_in_copying(&mut heap, alloc)?;
-    show_number(
-        "copying",
-        kept,
-        heap.object_count(),
-        heap.allocated_bytes(),
-        out,
-    )
+    let (objects, bytes) = (heap.object_count(), heap.allocated_bytes());
+    Ok(show_number("copying", kept, objects, bytes, out)?)
 }
 
 /// Writes a number that was kept, and how many objects and bytes there are.
-fn show_number<W: Write + Drop>(
+fn show_number(
     kind: &str,
     kept: u32,
     objects: u64,
     bytes: usize,
-    out: &mut W,
-) -> Result<(), KindFault> {
+    out: &mut String,
+) -> Result<(), AllocError> {
     writeln!(
         out,
         "kept in a {kind} heap: {kept}, {objects} objects, {bytes} bytes"
-    )?;
-    Ok(())
+    )
 }

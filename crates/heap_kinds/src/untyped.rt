@@ -10,7 +10,6 @@ use gc_copying::CopyingHeap;
 use gc_heap::GcHeap;
 use gc_types::{Layouts, Types};
 use std::alloc::Global;
-use std::io::Write;
 
 /// The plain number in the object that the only root's object names, after a collection of three
 /// structs of undeclared type: the first names the second, and nothing the third.
@@ -39,17 +38,12 @@ fn keep_two_of_three<H: GcHeap>(
 }
 
 /// Writes that number, and how many objects and bytes are left.
-pub(crate) fn show_untyped<W: Write + Drop>(
-    alloc: Global,
-    number: u32,
-    out: &mut W,
-) -> Result<(), KindFault> {
+pub(crate) fn show_untyped(alloc: Global, number: u32, out: &mut String) -> Result<(), KindFault> {
     let mut heap = CopyingHeap::new(alloc);
     let read = keep_two_of_three(&mut heap, alloc, number)?;
     let (objects, bytes) = (heap.object_count(), heap.allocated_bytes());
-    writeln!(
+    Ok(writeln!(
         out,
         "structs of undeclared type: {read:?}, {objects} objects, {bytes} bytes"
-    )?;
-    Ok(())
+    )?)
 }

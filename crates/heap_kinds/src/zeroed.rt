@@ -8,7 +8,6 @@ use gc_heap::{GcHeap, HeapMemory, NullHeap};
 use gc_refs::VMGcRef;
 use gc_types::{FieldLayouts, GcStructLayout, Layouts, VMSharedTypeIndex};
 use std::alloc::Global;
-use std::io::Write;
 
 fn layout_of(alloc: Global, size: u32, is_exception: bool) -> GcStructLayout
     ensures size { result.size ≡ size }
@@ -83,12 +82,11 @@ fn write_over<H: GcHeap>(heap: &mut H, alloc: Global) -> Result<(u32, u32), Kind
 }
 
 /// Writes what is read of a new object before and after a number is written to it.
-pub(crate) fn show_zeroed<W: Write + Drop>(alloc: Global, out: &mut W) -> Result<(), KindFault> {
+pub(crate) fn show_zeroed(alloc: Global, out: &mut String) -> Result<(), KindFault> {
     let mut heap = NullHeap::new(alloc);
     let (before, after) = write_over(&mut heap, alloc)?;
-    writeln!(
+    Ok(writeln!(
         out,
         "over bytes that aren't 0: {before:#010x}, then {after:#010x}"
-    )?;
-    Ok(())
+    )?)
 }

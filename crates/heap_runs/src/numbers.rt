@@ -1,9 +1,9 @@
 //! Each barrier on a 31-bit number.
 
-use crate::fault::RunFault;
 use gc_heap::GcHeap;
 use gc_raw_store::GcStore;
 use gc_refs::{I31, VMGcRef};
+use std::alloc::AllocError;
 
 /// The number.
 const NUMBER: u32 = 7;
@@ -18,9 +18,9 @@ fn slot_word(slot: &Option<VMGcRef>) -> u32 {
 
 /// Copies a 31-bit number, puts it into a slot and over itself, gives a copy up, and shows another.
 pub(crate) fn run_numbers<H: GcHeap>(
-    rt: &impl Print,
     store: &mut GcStore<H, u32>,
-) -> Result<(), RunFault> {
+    out: &mut String,
+) -> Result<(), AllocError> {
     let number = VMGcRef::from_i31(I31::wrapping_u32(NUMBER));
     store.is_stored();
     let copy = store.clone_gc_ref(&number);
@@ -32,6 +32,8 @@ pub(crate) fn run_numbers<H: GcHeap>(
     let written = slot_word(&slot);
     store.drop_gc_ref(copy);
     let shown = store.expose_gc_ref_to_wasm(number).get();
-    println!(rt; "  a number: cloned {cloned}, in a slot {put}, written {written}, shown {shown}")?;
-    Ok(())
+    writeln!(
+        out,
+        "  a number: cloned {cloned}, in a slot {put}, written {written}, shown {shown}"
+    )
 }

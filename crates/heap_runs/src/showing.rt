@@ -21,37 +21,51 @@ pub(crate) fn kind_name(kind: VMGcKind) -> &'static str {
     }
 }
 
-/// Shows a struct, an array or an exception: its kind, where it lies, the type and the spare bits of its
+/// Writes a struct, an array or an exception: its kind, where it lies, the type and the spare bits of its
 /// header, and the first word of its data.
 pub(crate) fn show_object<H: GcHeap>(
-    rt: &impl Print,
     store: &GcStore<H, u32>,
     word: &VMGcRef,
+    out: &mut String,
 ) -> Result<(), RunFault> {
     let kind = kind_name(store.kind(word)?);
     let header = store.header(word)?;
-    let ty = header.type_index().as_u32();
-    let spare = header.reserved_u26();
-    let data = store.gc_object_data(word)?;
-    let first = data.read_u32(H::KIND.struct_base())?;
+    let first = word_at(store, word, H::KIND.struct_base())?;
+    let (ty, spare) = (header.type_index().as_u32(), header.reserved_u26());
     let place = word.as_raw_u32();
-    println!(rt; "  {kind} at {place}: type {ty}, spare bits {spare}, data {first}")?;
-    Ok(())
+    Ok(writeln!(
+        out,
+        "  {kind} at {place}: type {ty}, spare bits {spare}, data {first}"
+    )?)
 }
 
-/// Shows a step, and in a counting heap what the count word of an object is then.
+/// The word at an offset of an object.
+fn word_at<H: GcHeap>(
+    store: &GcStore<H, u32>,
+    word: &VMGcRef,
+    offset: u32,
+) -> Result<u32, RunFault> {
+    let data = store.gc_object_data(word)?;
+    Ok(data.read_u32(offset)?)
+}
+
+/// The count word of an object.
+fn count_of<H: GcHeap>(store: &GcStore<H, u32>, word: &VMGcRef) -> Result<u64, RunFault> {
+    let data = store.gc_object_data(word)?;
+    Ok(data.read_u64(COUNT)?)
+}
+
+/// Writes a step, and in a counting heap what the count word of an object is then.
 pub(crate) fn show_count<H: GcHeap>(
-    rt: &impl Print,
     store: &GcStore<H, u32>,
     step: &str,
     word: &VMGcRef,
+    out: &mut String,
 ) -> Result<(), RunFault> {
     if H::KIND == Layouts::Counting {
-        let data = store.gc_object_data(word)?;
-        let count = data.read_u64(COUNT)?;
-        println!(rt; "  {step}: count {count}")?;
+        let count = count_of(store, word)?;
+        Ok(writeln!(out, "  {step}: count {count}")?)
     } else {
-        println!(rt; "  {step}")?;
+        Ok(writeln!(out, "  {step}")?)
     }
-    Ok(())
 }

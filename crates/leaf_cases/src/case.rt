@@ -169,16 +169,44 @@ impl Cases {
 
     /// Begins with other bytes, another table or another memory.
     fn renew(&mut self, name: &str, numbers: &[u128], out: &mut String) -> Result<(), CaseFault> {
-        match named(&BEGINS, name, numbers.len())? {
-            Begins::Bytes => self.bytes = bytes_of(self.alloc, numbers)?,
+        let begins = named(&BEGINS, name, numbers.len())?;
+        self.begin(begins, numbers)?;
+        Ok(out.push_str("done")?)
+    }
+
+    /// Begins with what a row asks for.
+    fn begin(&mut self, begins: Begins, numbers: &[u128]) -> Result<(), CaseFault> {
+        match begins {
+            Begins::Bytes => self.begin_bytes(numbers),
+            Begins::Memory => self.begin_memory(numbers),
+            Begins::Hosts | Begins::Funcs | Begins::Slab | Begins::Roots => {
+                self.begin_table(begins);
+                Ok(())
+            }
+        }
+    }
+
+    /// Begins with other bytes.
+    fn begin_bytes(&mut self, numbers: &[u128]) -> Result<(), CaseFault> {
+        self.bytes = bytes_of(self.alloc, numbers)?;
+        Ok(())
+    }
+
+    /// Begins with another memory.
+    fn begin_memory(&mut self, numbers: &[u128]) -> Result<(), CaseFault> {
+        self.memory = new_memory(self.alloc, low_words(numbers)[0])?;
+        Ok(())
+    }
+
+    /// Begins with another table or list.
+    fn begin_table(&mut self, begins: Begins) {
+        match begins {
             Begins::Hosts => self.hosts = ExternRefHostDataTable::new(self.alloc),
             Begins::Funcs => self.funcs = FuncRefTable::new(self.alloc),
             Begins::Slab => self.slab = Slab::new(self.alloc),
-            Begins::Memory => self.memory = new_memory(self.alloc, low_words(numbers)[0])?,
             Begins::Roots => self.roots = GcRootsList::new(self.alloc),
+            Begins::Bytes | Begins::Memory => {}
         }
-        out.push_str("done")?;
-        Ok(())
     }
 }
 

@@ -39,14 +39,17 @@ use crate::fault::CaseFault;
 use crate::row::{Row, row_of};
 use std::alloc::{AllocError, Global};
 use std::io;
-use std::io::{BufWriter, Write};
 
 /// Adds each row of a text with its answer.
-fn answer_rows(alloc: Global, text: &str, out: &mut String) -> Result<(), CaseFault> {
-    let mut cases = Cases::new(alloc)?;
+fn answer_rows(
+    alloc: Global,
+    cases: &mut Cases,
+    text: &str,
+    out: &mut String,
+) -> Result<(), AllocError> {
     for line in text.lines() {
         if !line.is_empty() && !line.starts_with("//") {
-            answer_row(alloc, &mut cases, line, out)?;
+            answer_row(alloc, cases, line, out)?;
         }
     }
     Ok(())
@@ -77,10 +80,16 @@ fn show_row(
     out.push_str("\n")
 }
 
+/// Adds each row of a text with its answer, from the beginning.
+fn answer_text(alloc: Global, text: &str, out: &mut String) -> Result<(), CaseFault> {
+    let mut cases = Cases::new(alloc)?;
+    Ok(answer_rows(alloc, &mut cases, text, out)?)
+}
+
 /// What must be printed of a text.
 fn answers(alloc: Global, text: &str) -> Result<String, CaseFault> {
     let mut out = String::new(alloc);
-    answer_rows(alloc, text, &mut out)?;
+    answer_text(alloc, text, &mut out)?;
     Ok(out)
 }
 
@@ -88,8 +97,6 @@ fn main(rt: HostRuntime) -> Result<(), CaseFault> {
     let alloc = rt.alloc();
     let text = io::read_to_string(alloc, rt.reader())?;
     let shown = answers(alloc, text.as_str())?;
-    let mut out = BufWriter::new(alloc, io::writer(&rt))?;
-    out.write_all(shown.as_bytes())?;
-    out.flush()?;
+    print!(rt; "{shown}")?;
     Ok(())
 }

@@ -45,15 +45,25 @@ pub(crate) fn show_word_texts(gc_ref: &VMGcRef, out: &mut String) -> Result<(), 
     )
 }
 
+/// Writes the texts of a reference.
+fn show_reference<P: Pointer + fmt::Debug>(
+    reference: &P,
+    out: &mut String,
+) -> Result<(), AllocError> {
+    write!(out, "{} {reference:?}, ", Placed(reference))
+}
+
 /// Writes the texts of references of each kind that have that word.
 pub(crate) fn show_kind_texts(gc_ref: &VMGcRef, out: &mut String) -> Result<(), AllocError> {
-    let of_struct = VMStructRef::new_unchecked(gc_ref.unchecked_copy());
-    write!(out, "{} {of_struct:?}, ", Placed(&of_struct))?;
-    let of_array = VMArrayRef::new_unchecked(gc_ref.unchecked_copy());
-    write!(out, "{} {of_array:?}, ", Placed(&of_array))?;
-    let of_exn = VMExnRef::new_unchecked(gc_ref.unchecked_copy());
-    write!(out, "{} {of_exn:?}, ", Placed(&of_exn))?;
-    let of_extern = VMExternRef::new_unchecked(gc_ref.unchecked_copy());
+    show_reference(&VMStructRef::new_unchecked(gc_ref.unchecked_copy()), out)?;
+    show_reference(&VMArrayRef::new_unchecked(gc_ref.unchecked_copy()), out)?;
+    show_reference(&VMExnRef::new_unchecked(gc_ref.unchecked_copy()), out)?;
+    show_reference(&VMExternRef::new_unchecked(gc_ref.unchecked_copy()), out)?;
+    show_typed(gc_ref, out)
+}
+
+/// Writes the text of a typed reference that has that word.
+fn show_typed(gc_ref: &VMGcRef, out: &mut String) -> Result<(), AllocError> {
     let typed: TypedGcRef<VMGcHeader> = TypedGcRef::new_unchecked(gc_ref.unchecked_copy());
-    write!(out, "{} {of_extern:?}, {typed:?}", Placed(&of_extern))
+    write!(out, "{typed:?}")
 }

@@ -55,16 +55,42 @@ const CALLS: [(&str, usize, Call); 6] = [
 macro_rules! read_number {
     ($view:expr, $scalar:expr, $offset:expr) => {
         match $scalar {
-            Scalar::U8 => $view.read_u8($offset)? as i128,
-            Scalar::U16 => $view.read_u16($offset)? as i128,
-            Scalar::U32 => $view.read_u32($offset)? as i128,
-            Scalar::U64 => $view.read_u64($offset)? as i128,
-            Scalar::I8 => $view.read_i8($offset)? as i128,
-            Scalar::I16 => $view.read_i16($offset)? as i128,
-            Scalar::I32 => $view.read_i32($offset)? as i128,
-            Scalar::I64 => $view.read_i64($offset)? as i128,
+            Scalar::U8 => widened($view.read_u8($offset)),
+            Scalar::U16 => widened($view.read_u16($offset)),
+            Scalar::U32 => widened($view.read_u32($offset)),
+            Scalar::U64 => widened($view.read_u64($offset)),
+            Scalar::I8 => widened($view.read_i8($offset)),
+            Scalar::I16 => widened($view.read_i16($offset)),
+            Scalar::I32 => widened($view.read_i32($offset)),
+            Scalar::I64 => widened($view.read_i64($offset)),
         }
     };
+}
+
+/// A number that was read, in 128 bits.
+fn widened<T: Into<i128>>(read: Result<T, DataFault>) -> Result<i128, DataFault> {
+    match read {
+        Ok(number) => Ok(number.into()),
+        Err(fault) => Err(fault),
+    }
+}
+
+/// Writes a number that was read.
+fn show_number(read: Result<i128, DataFault>, out: &mut String) -> Result<(), CaseFault> {
+    let number = read?;
+    Ok(write!(out, "{number}")?)
+}
+
+/// Writes a vector that was read, as a number.
+fn show_vector(read: Result<V128, DataFault>, out: &mut String) -> Result<(), CaseFault> {
+    let number = read?.as_u128();
+    Ok(write!(out, "{number}")?)
+}
+
+/// Writes bytes that are lent.
+fn show_slice(lent: Result<&[u8], DataFault>, out: &mut String) -> Result<(), CaseFault> {
+    let bytes = lent?;
+    Ok(write!(out, "{bytes:?}")?)
 }
 
 /// Writes the answer to a row on views of these bytes, and then the bytes.
@@ -116,19 +142,17 @@ fn show_data(
     };
     let [offset, len, _] = low_words(numbers);
     if *width == "slice" {
-        write!(out, "{:?}", view.slice(offset, len)?)?;
-    } else {
-        match named(&WIDTHS, width, numbers.len())? {
-            Width::Scalar(scalar) => write!(out, "{}", read_data(view, scalar, offset)?)?,
-            Width::Vector => write!(out, "{}", view.read_v128(offset)?.as_u128())?,
-        }
+        return show_slice(view.slice(offset, len), out);
     }
-    Ok(())
+    match named(&WIDTHS, width, numbers.len())? {
+        Width::Scalar(scalar) => show_number(read_data(view, scalar, offset), out),
+        Width::Vector => show_vector(view.read_v128(offset), out),
+    }
 }
 
 /// The number of that width at an offset.
 fn read_data(view: &VMGcObjectData<'_>, scalar: Scalar, offset: u32) -> Result<i128, DataFault> {
-    Ok(read_number!(view, scalar, offset))
+    read_number!(view, scalar, offset)
 }
 
 /// Calls a view of the bytes as a part of an object.
@@ -158,17 +182,36 @@ fn answer_call(
         return Err(CaseFault::BadCase);
     };
     let width = rest.first().copied().unwrap_or("");
-    let [first, second, third] = low_words(numbers);
-    let done = match named(&CALLS, call, numbers.len())? {
-        Call::Read => return show_read(view, width, numbers, out),
-        Call::Copy => return copy(alloc, view, numbers, out),
-        Call::Write => write_number(view, named(&WIDTHS, width, 1)?, numbers),
-        Call::Fill => fill(view, first, second, low_u8(u128::from(third))),
-        Call::Move => view.copy_within(first..second, third),
-    };
+    match named(&CALLS, call, numbers.len())? {
+        Call::Read => show_read(view, width, numbers, out),
+        Call::Copy => copy(alloc, view, numbers, out),
+        Call::Write => write(view, width, numbers, out),
+        Call::Fill => show_done(fill(view, low_words(numbers)), out),
+        Call::Move => show_done(move_bytes(view, low_words(numbers)), out),
+    }
+}
+
+/// Writes that a call has done what it says.
+fn show_done(done: Result<(), DataFault>, out: &mut String) -> Result<(), CaseFault> {
     done?;
-    out.push_str("done")?;
-    Ok(())
+    Ok(out.push_str("done")?)
+}
+
+/// Writes a number of that width, and that it is done.
+fn write(
+    view: &mut VMGcObjectDataMut<'_>,
+    width: &str,
+    numbers: &[u128],
+    out: &mut String,
+) -> Result<(), CaseFault> {
+    let width = named(&WIDTHS, width, 1)?;
+    show_done(write_number(view, width, numbers), out)
+}
+
+/// Moves the bytes from the first to the second number to the third.
+fn move_bytes(view: &mut VMGcObjectDataMut<'_>, numbers: [u32; 3]) -> Result<(), DataFault> {
+    let [first, second, third] = numbers;
+    view.copy_within(first..second, third)
 }
 
 /// Writes what is read of a view.
@@ -180,19 +223,17 @@ fn show_read(
 ) -> Result<(), CaseFault> {
     let [offset, len, _] = low_words(numbers);
     if width == "slice" {
-        write!(out, "{:?}", view.slice(offset, len)?)?;
-    } else {
-        match named(&WIDTHS, width, numbers.len())? {
-            Width::Scalar(scalar) => write!(out, "{}", read_mut(view, scalar, offset)?)?,
-            Width::Vector => write!(out, "{}", view.read_v128(offset)?.as_u128())?,
-        }
+        return show_slice(view.slice(offset, len), out);
     }
-    Ok(())
+    match named(&WIDTHS, width, numbers.len())? {
+        Width::Scalar(scalar) => show_number(read_mut(view, scalar, offset), out),
+        Width::Vector => show_vector(view.read_v128(offset), out),
+    }
 }
 
 /// The number of that width at an offset of a view for writing.
 fn read_mut(view: &VMGcObjectDataMut<'_>, scalar: Scalar, offset: u32) -> Result<i128, DataFault> {
-    Ok(read_number!(view, scalar, offset))
+    read_number!(view, scalar, offset)
 }
 
 /// Writes a number of that width at an offset.
@@ -227,15 +268,11 @@ fn write_scalar(
     }
 }
 
-/// Fills the bytes that are lent for writing.
-fn fill(
-    view: &mut VMGcObjectDataMut<'_>,
-    offset: u32,
-    len: u32,
-    byte: u8,
-) -> Result<(), DataFault> {
+/// Fills as many bytes at an offset as the second number says with the third, as they are lent for writing.
+fn fill(view: &mut VMGcObjectDataMut<'_>, numbers: [u32; 3]) -> Result<(), DataFault> {
+    let [offset, len, byte] = numbers;
     let lent = view.slice_mut(offset, len)?;
-    lent.fill(byte);
+    lent.fill(low_u8(u128::from(byte)));
     Ok(())
 }
 
@@ -250,9 +287,7 @@ fn copy(
         return Err(CaseFault::BadCase);
     };
     let src = bytes_of(alloc, rest)?;
-    view.copy_from_slice(low_u32(*offset), src.as_slice())?;
-    out.push_str("done")?;
-    Ok(())
+    show_done(view.copy_from_slice(low_u32(*offset), src.as_slice()), out)
 }
 
 /// Writes a number twice.
@@ -261,7 +296,5 @@ fn show_twice(bytes: &mut [u8], numbers: &[u128], out: &mut String) -> Result<()
         return Err(CaseFault::BadCase);
     }
     let [number, ..] = low_words(numbers);
-    write_twice(bytes, number)?;
-    out.push_str("done")?;
-    Ok(())
+    show_done(write_twice(bytes, number), out)
 }
