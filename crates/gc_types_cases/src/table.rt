@@ -120,24 +120,15 @@ fn unless_refused(
     }
 }
 
-/// What stands in front of the fields of a type, and the words of these.
-#[derive(Clone, Copy)]
-struct Head<'a> {
-    supertype: Option<VMSharedTypeIndex>,
-    is_final: bool,
-    rest: &'a [&'a str],
-}
+/// What stands in front of the fields of a type: its supertype, if any, and whether it is final.
+type Head = (Option<VMSharedTypeIndex>, bool);
 
-/// The supertype and the finality that the first two words name.
-fn head_of<'a>(words: &'a [&'a str]) -> Result<Head<'a>, CaseFault> {
-    let [supertype, finality, rest @ ..] = words else {
+/// The supertype and the finality that two words name.
+fn head_of(words: &[&str]) -> Result<Head, CaseFault> {
+    let [supertype, finality] = words else {
         return Err(CaseFault::BadCase);
     };
-    Ok(Head {
-        supertype: supertype_of(supertype)?,
-        is_final: finality_of(finality)?,
-        rest,
-    })
+    Ok((supertype_of(supertype)?, finality_of(finality)?))
 }
 
 fn declare_struct(
@@ -145,9 +136,12 @@ fn declare_struct(
     types: &mut Types,
     words: &[&str],
 ) -> Result<Option<VMSharedTypeIndex>, CaseFault> {
-    let head = head_of(words)?;
-    let fields = fields_of(alloc, head.rest)?;
-    let answer = types.declare_struct(fields.as_slice(), head.supertype, head.is_final);
+    let Some((head, rest)) = words.split_at_checked(2) else {
+        return Err(CaseFault::BadCase);
+    };
+    let (supertype, is_final) = head_of(head)?;
+    let fields = fields_of(alloc, rest)?;
+    let answer = types.declare_struct(fields.as_slice(), supertype, is_final);
     unless_refused(answer.map(|ty| ty.index()))
 }
 
@@ -156,12 +150,15 @@ fn declare_array(
     types: &mut Types,
     words: &[&str],
 ) -> Result<Option<VMSharedTypeIndex>, CaseFault> {
-    let head = head_of(words)?;
-    let elems = fields_of(alloc, head.rest)?;
+    let Some((head, rest)) = words.split_at_checked(2) else {
+        return Err(CaseFault::BadCase);
+    };
+    let (supertype, is_final) = head_of(head)?;
+    let elems = fields_of(alloc, rest)?;
     let [elem] = elems.as_slice() else {
         return Err(CaseFault::BadCase);
     };
-    let answer = types.declare_array(*elem, head.supertype, head.is_final);
+    let answer = types.declare_array(*elem, supertype, is_final);
     unless_refused(answer.map(|ty| ty.index()))
 }
 
@@ -170,16 +167,12 @@ fn declare_func(
     types: &mut Types,
     words: &[&str],
 ) -> Result<Option<VMSharedTypeIndex>, CaseFault> {
-    let head = head_of(words)?;
-    let (before, behind) = signature_of(head.rest)?;
-    let params = values_of(alloc, before)?;
-    let results = values_of(alloc, behind)?;
-    let answer = types.declare_func(
-        params.as_slice(),
-        results.as_slice(),
-        head.supertype,
-        head.is_final,
-    );
+    let Some((head, rest)) = words.split_at_checked(2) else {
+        return Err(CaseFault::BadCase);
+    };
+    let (supertype, is_final) = head_of(head)?;
+    let (params, results) = signature_of(alloc, rest)?;
+    let answer = types.declare_func(params.as_slice(), results.as_slice(), supertype, is_final);
     unless_refused(answer.map(|ty| ty.index()))
 }
 
@@ -192,12 +185,14 @@ fn declare_exn(
     unless_refused(types.declare_exn(params.as_slice()).map(|ty| ty.index()))
 }
 
-/// The words that stand before and behind an arrow.
-fn signature_of<'a>(words: &'a [&'a str]) -> Result<(&'a [&'a str], &'a [&'a str]), CaseFault> {
+/// The parameters and the results that stand before and behind an arrow.
+fn signature_of(alloc: Global, words: &[&str]) -> Result<(Vec<ValType>, Vec<ValType>), CaseFault> {
     let Some(at) = words.iter().position(|word| *word == "->") else {
         return Err(CaseFault::BadCase);
     };
-    Ok((&words[..at], &words[at + 1..]))
+    let params = values_of(alloc, &words[..at])?;
+    let results = values_of(alloc, &words[at + 1..])?;
+    Ok((params, results))
 }
 
 fn declare_wide_struct(

@@ -116,11 +116,7 @@ fn push_limited(
 ) -> Result<()> {
     let mut limiter = PageLimit::new(most);
     run_heap(alloc, new, &mut limiter, script, out)?;
-    Ok(push_refused(
-        limiter.refusals(),
-        limiter.last_refused(),
-        out,
-    )?)
+    Ok(push_refused(limiter.refusals(), limiter.last_refused(), out)?)
 }
 
 /// Runs a script on a new store whose limiter answers as a header says.
@@ -134,11 +130,7 @@ fn push_answered(
     let answers = answers_of(alloc, header.value("answers").unwrap_or(""))?;
     let mut limiter = Scripted::new(answers);
     run_heap(alloc, new, &mut limiter, script, out)?;
-    Ok(push_refused(
-        limiter.refusals(),
-        limiter.last_refused(),
-        out,
-    )?)
+    Ok(push_refused(limiter.refusals(), limiter.last_refused(), out)?)
 }
 
 /// Writes what a limiter refused.

@@ -93,10 +93,15 @@ fn collects_a_shown_one<H: GcHeap>(
     Ok((queued, shown, heap.object_count(), heap.allocated_bytes()))
 }
 
+/// What these collections did in a new heap.
+fn shown_in_new(alloc: Global) -> Result<(OwnWords, OwnWords, u64, usize), KindFault> {
+    let mut heap = DrcHeap::new(alloc);
+    collects_a_shown_one(&mut heap, alloc)
+}
+
 /// Writes what these collections did. The words are the lowest byte of the count word and the heap's own bits.
 pub(crate) fn show_shown(alloc: Global, out: &mut String) -> Result<(), KindFault> {
-    let mut heap = DrcHeap::new(alloc);
-    let (queued, shown, objects, bytes) = collects_a_shown_one(&mut heap, alloc)?;
+    let (queued, shown, objects, bytes) = shown_in_new(alloc)?;
     Ok(writeln!(
         out,
         "queued and shown: {queued:?}, then {shown:?}, {objects} objects, {bytes} bytes"

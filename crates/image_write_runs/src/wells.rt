@@ -41,11 +41,7 @@ pub(crate) fn push_well(alloc: Global, image: &str, line: &mut String) -> Result
 }
 
 /// Writes how many bytes make an image well, for each of its places.
-pub(crate) fn push_counts(
-    alloc: Global,
-    image: &str,
-    line: &mut String,
-) -> Result<(), AllocError> {
+pub(crate) fn push_counts(alloc: Global, image: &str, line: &mut String) -> Result<(), AllocError> {
     let bytes = bytes_of(alloc, image)?;
     for place in 0..bytes.len() {
         let count = count_well(alloc, bytes.as_slice(), place)?;

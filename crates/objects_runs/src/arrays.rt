@@ -1,7 +1,7 @@
 //! Arrays: made in each way, read, written, copied and refused.
 
-use crate::setup::{BYTES, CONSTANTS, ample, arrays_of, as_array, filled, listed, new_bytes};
 use crate::page::Page;
+use crate::setup::{BYTES, CONSTANTS, ample, arrays_of, as_array, filled, listed, new_bytes};
 use gc_heap::GcHeap;
 use gc_objects::{ArrayRef, Val};
 use gc_store::{Rooted, Store};

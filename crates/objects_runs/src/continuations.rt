@@ -1,10 +1,10 @@
 //! Continuations among values: stored, read and overwritten, over a collection too, and refused where they don't fit.
 
+use crate::page::Page;
 use crate::setup::{
     CONT_HOLDER, CONT_TYPE, CONTINUATIONS, NO_CONT_HOLDER, NO_CONT_TYPE, ample, filled, listed,
     new_struct_of, structs_of,
 };
-use crate::page::Page;
 use crate::structs::write_and_read;
 use crate::{arrays, structs};
 use gc_heap::GcHeap;

@@ -4,8 +4,8 @@ ghost use Rattle.std.specs.Prelude.{ℕ, IfOk};
 ghost use Rattle.gc_types.specs.declared.kind.VMGcKind.{VMGcKind};
 ghost use Rattle.gc_store.specs.Kinds.{NamesKind};
 
-use crate::setup::{ample, exceptions};
 use crate::page::Page;
+use crate::setup::{ample, exceptions};
 use gc_heap::GcHeap;
 use gc_objects::{ExnRef, StoreExn, ThrowFault, Val};
 use gc_store::{Rooted, Store};

@@ -1,10 +1,10 @@
 //! Functions among values: stored, read and overwritten, and refused where they don't fit.
 
+use crate::page::Page;
 use crate::setup::{
     FUNCTION, FUNCTIONS, HOLDER, OTHER_FUNCTION, ample, filled, function_type, listed,
     new_struct_of, structs_of,
 };
-use crate::page::Page;
 use crate::structs::write_and_read;
 use crate::{arrays, structs};
 use gc_heap::GcHeap;
@@ -25,7 +25,10 @@ fn show_fits<H: GcHeap>(page: &mut Page, store: &Store<H, u64>) -> Result<()> {
     let own = function(7, FUNCTION)?.matches_ty(store, &ty)?;
     let none = Val::FuncRef(None).matches_ty(store, &ty)?;
     let other = function(7, OTHER_FUNCTION)?.matches_ty(store, &ty)?;
-    let written = writeln!(page.text, "fits: {own}, none: {none}, of another type: {other}");
+    let written = writeln!(
+        page.text,
+        "fits: {own}, none: {none}, of another type: {other}"
+    );
     page.keep(written);
     Ok(())
 }
@@ -49,11 +52,7 @@ pub(crate) fn run_fields<H: GcHeap>(page: &mut Page, store: &mut Store<H, u64>) 
 }
 
 /// A struct whose field holds functions isn't made of one of another type.
-fn make_of_other<H: GcHeap>(
-    page: &mut Page,
-    store: &mut Store<H, u64>,
-    other: Val,
-) -> Result<()> {
+fn make_of_other<H: GcHeap>(page: &mut Page, store: &mut Store<H, u64>, other: Val) -> Result<()> {
     let allocator = structs_of(store, HOLDER)?;
     let values = [other];
     let answer = StructRef::new(store, &mut ample(), &allocator, &values);

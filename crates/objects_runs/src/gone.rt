@@ -5,9 +5,9 @@ ghost use Rattle.gc_types.specs.declared.kind.VMGcKind.{VMGcKind};
 ghost use Rattle.gc_store.specs.Kinds.{NamesKind};
 
 use crate::gone_values::give_handle;
+use crate::page::Page;
 use crate::setup::{BYTES, EXCEPTION, STRUCT};
 use crate::structs::new_struct;
-use crate::page::Page;
 use gc_heap::GcHeap;
 use gc_objects::{AnyRef, ArrayRef, ExnRef, ExternRef, StoreExn, StructRef, ThrowFault, Val};
 use gc_store::laws::stores_hold_tables;
@@ -35,7 +35,10 @@ fn use_struct<H: GcHeap>(
     let this: Rooted<StructRef> = nothing(store, handle)?;
     page.tell("field", StructRef::field(store, &this, 0).err());
     let this: Rooted<StructRef> = nothing(store, handle)?;
-    page.tell("set_field", StructRef::set_field(store, &this, 0, Val::I32(1)).err());
+    page.tell(
+        "set_field",
+        StructRef::set_field(store, &this, 0, Val::I32(1)).err(),
+    );
     let this: Rooted<StructRef> = nothing(store, handle)?;
     page.tell("fields", StructRef::fields(store, &this).err());
     Ok(())
@@ -79,7 +82,10 @@ fn ask_array<H: GcHeap>(
 ) -> Result<()> {
     let this: Rooted<ArrayRef> = nothing(store, handle)?;
     page.tell("len", ArrayRef::len(store, &this).err());
-    page.tell("copy_to_i8_slice", ArrayRef::copy_to_i8_slice(store, &this, &mut []).err());
+    page.tell(
+        "copy_to_i8_slice",
+        ArrayRef::copy_to_i8_slice(store, &this, &mut []).err(),
+    );
     page.tell("ty", ArrayRef::ty(store, &this).err());
     match store.types().array_type(VMSharedTypeIndex::new(BYTES)) {
         Some(ty) => page.tell("matches_ty", ArrayRef::matches_ty(store, &this, &ty).err()),

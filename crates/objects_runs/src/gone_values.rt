@@ -1,9 +1,9 @@
 //! Each call that takes a value, with one whose handle names nothing; of `StructRef`'s see `structs`.
 
 use crate::exceptions::TAG;
+use crate::page::Page;
 use crate::setup::{CONSTANTS, ample, any_type, arrays_of, exceptions, new_bytes};
 use crate::structs::new_struct;
-use crate::page::Page;
 use gc_heap::GcHeap;
 use gc_objects::{AnyRef, ArrayRef, ExnRef, Val};
 use gc_store::{Rooted, Store, ref_eq};
@@ -43,7 +43,10 @@ fn compare<H: GcHeap>(
     handle: Rooted<AnyRef>,
 ) -> Result<()> {
     let live: Rooted<AnyRef> = new_struct(store)?.cast();
-    page.tell("ref_eq behind a live one", ref_eq(store, &live, &handle).err());
+    page.tell(
+        "ref_eq behind a live one",
+        ref_eq(store, &live, &handle).err(),
+    );
     Ok(())
 }
 

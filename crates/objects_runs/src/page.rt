@@ -39,12 +39,7 @@ fn number_of(value: &Val) -> Option<i128> {
 }
 
 /// Writes a value of a field or an element.
-fn write_value(
-    text: &mut String,
-    place: &str,
-    index: u32,
-    value: &Val,
-) -> Result<(), AllocError> {
+fn write_value(text: &mut String, place: &str, index: u32, value: &Val) -> Result<(), AllocError> {
     let name = name_of(value);
     match number_of(value) {
         Some(number) => writeln!(text, "{place} {index} is {name} {number}"),

@@ -4,8 +4,8 @@ ghost use Rattle.std.specs.Prelude.{ℕ, IfOk};
 ghost use Rattle.gc_types.specs.declared.kind.VMGcKind.{VMGcKind};
 ghost use Rattle.gc_store.specs.Kinds.{NamesKind};
 
-use crate::setup::{ample, any_type};
 use crate::page::Page;
+use crate::setup::{ample, any_type};
 use gc_heap::GcHeap;
 use gc_objects::{AnyRef, ExternRef, StructRef, Val};
 use gc_refs::I31;
@@ -17,7 +17,11 @@ use run_faults::{Result, RunFault};
 fn ask<H: GcHeap>(page: &mut Page, store: &Store<H, u64>, handle: Rooted<AnyRef>) -> Result<()> {
     let number = AnyRef::as_i31(store, handle)?;
     let is_struct = Rooted::<StructRef>::from_index(store, handle.root_index())?.is_some();
-    page.show_number("number", number.map(|number| u64::from(number.get_u32())), "no number");
+    page.show_number(
+        "number",
+        number.map(|number| u64::from(number.get_u32())),
+        "no number",
+    );
     let written = writeln!(page.text, "a struct: {is_struct}");
     page.keep(written);
     Ok(())

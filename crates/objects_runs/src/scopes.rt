@@ -24,7 +24,11 @@ fn show_number<H: GcHeap>(
     handle: Rooted<AnyRef>,
 ) -> Result<()> {
     let number = AnyRef::as_i31(store, handle)?;
-    page.show_number("number", number.map(|number| u64::from(number.get_u32())), "no number");
+    page.show_number(
+        "number",
+        number.map(|number| u64::from(number.get_u32())),
+        "no number",
+    );
     Ok(())
 }
 

@@ -4,8 +4,8 @@ ghost use Rattle.std.specs.Prelude.{ℕ, IfOk};
 ghost use Rattle.gc_types.specs.declared.kind.VMGcKind.{VMGcKind};
 ghost use Rattle.gc_store.specs.Kinds.{NamesKind};
 
-use crate::setup::{STRUCT, ample, as_struct, new_struct_of, structs_of};
 use crate::page::Page;
+use crate::setup::{STRUCT, ample, as_struct, new_struct_of, structs_of};
 use gc_heap::GcHeap;
 use gc_objects::{AnyRef, StructRef, Val};
 use gc_store::{Rooted, RootedGcRef, Store, ref_eq};

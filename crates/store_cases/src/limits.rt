@@ -1,6 +1,8 @@
 //! Configurations, ids, and limiters.
 
-use gc_store::{Engine, HeapConfig, PageLimit, ResourceLimiter, Scripted, StoreId, should_collect_first};
+use gc_store::{
+    Engine, HeapConfig, PageLimit, ResourceLimiter, Scripted, StoreId, should_collect_first,
+};
 use std::alloc::{AllocError, Global};
 
 /// The most roots of a kind that a configuration takes.

@@ -115,11 +115,23 @@ fn run_over<H: GcHeap + Drop>(
 /// Runs all cases over heaps of each kind.
 fn run_kinds(alloc: Global, config: HeapConfig, out: &mut String) -> Result<(), CaseFault> {
     out.push_str("== null\n")?;
-    run_over(alloc, config, NullHeap::new(alloc), NullHeap::new(alloc), out)?;
+    run_over(
+        alloc,
+        config,
+        NullHeap::new(alloc),
+        NullHeap::new(alloc),
+        out,
+    )?;
     out.push_str("== counting\n")?;
     run_over(alloc, config, DrcHeap::new(alloc), DrcHeap::new(alloc), out)?;
     out.push_str("== copying\n")?;
-    run_over(alloc, config, CopyingHeap::new(alloc), CopyingHeap::new(alloc), out)
+    run_over(
+        alloc,
+        config,
+        CopyingHeap::new(alloc),
+        CopyingHeap::new(alloc),
+        out,
+    )
 }
 
 /// What must be printed.

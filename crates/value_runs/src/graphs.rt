@@ -86,11 +86,7 @@ pub(crate) fn run_chain<H: GcHeap>(
     let first = first.root_index();
     let second = second.root_index();
     show_path(rt, "to the first", path_to(alloc, store, first))?;
-    Ok(show_path(
-        rt,
-        "to the second",
-        path_to(alloc, store, second),
-    )?)
+    Ok(show_path(rt, "to the second", path_to(alloc, store, second))?)
 }
 
 /// Handles to which no path leads: of an object that scoped roots alone name, of a number, and of a root that is gone.
@@ -104,11 +100,7 @@ pub(crate) fn run_without<H: GcHeap>(
     let number = store.push_i31(I31::wrapping_u32(7))?;
     show_path(rt, "to a number", path_to(alloc, store, number))?;
     store.exit_gc_lifo_scope(0);
-    Ok(show_path(
-        rt,
-        "to what is gone",
-        path_to(alloc, store, garbage),
-    )?)
+    Ok(show_path(rt, "to what is gone", path_to(alloc, store, garbage))?)
 }
 
 /// An object that two others name, one of which the other names first: its path is the shorter one.
@@ -133,11 +125,7 @@ pub(crate) fn run_depth<H: GcHeap>(
 ) -> Result<()> {
     store.exit_gc_lifo_scope(0);
     make(store, &[Val::AnyRef(None), Val::AnyRef(None)])?;
-    Ok(show_report(
-        rt,
-        "with a scoped one",
-        all_paths(alloc, store, true),
-    )?)
+    Ok(show_report(rt, "with a scoped one", all_paths(alloc, store, true))?)
 }
 
 /// A store that has room for one scoped root less than its walks need.
