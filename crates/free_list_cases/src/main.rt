@@ -26,34 +26,60 @@ use crate::lists::Lists;
 use crate::row::row_of;
 use crate::timing::show_times;
 use std::alloc::Global;
-use std::io::{BufWriter, Write};
 use std::{env, io};
 
-/// Prints each row of a text with its answer.
-fn answer_rows<W: Write + Drop>(alloc: Global, text: &str, out: &mut W) -> Result<(), CaseFault> {
-    let mut lists = Lists::new(alloc, 0)?;
+/// Adds each row of a text with its answer.
+fn answer_rows(
+    alloc: Global,
+    lists: &mut Lists,
+    text: &str,
+    out: &mut String,
+) -> Result<(), CaseFault> {
     for line in text.lines() {
-        if line.is_empty() || line.starts_with("//") {
-            continue;
+        if !line.is_empty() && !line.starts_with("//") {
+            answer_row(alloc, lists, line, out)?;
         }
-        write!(out, "{line}: ")?;
-        answer(alloc, &mut lists, row_of(line)?, out)?;
-        writeln!(out)?;
     }
     Ok(())
 }
 
-fn main(rt: HostRuntime) -> Result<(), CaseFault> {
-    let alloc = rt.alloc();
-    let words: Vec<String> = env::args(&rt)?.skip(1).collect(alloc)?;
-    if let [word] = words.as_slice() {
-        if word.as_str() == "times" {
-            return show_times(&rt, alloc);
-        }
-    }
-    let text = io::read_to_string(alloc, rt.reader())?;
-    let mut out = BufWriter::new(alloc, io::writer(&rt))?;
-    answer_rows(alloc, text.as_str(), &mut out)?;
-    out.flush()?;
+/// Adds a row with its answer.
+fn answer_row(
+    alloc: Global,
+    lists: &mut Lists,
+    line: &str,
+    out: &mut String,
+) -> Result<(), CaseFault> {
+    let row = row_of(line)?;
+    write!(out, "{line}: ")?;
+    answer(alloc, lists, row, out)?;
+    Ok(out.push_str("\n")?)
+}
+
+/// Adds each row of a text with what new lists answer.
+fn answer_text(alloc: Global, text: &str, out: &mut String) -> Result<(), CaseFault> {
+    let mut lists = Lists::new(alloc, 0)?;
+    answer_rows(alloc, &mut lists, text, out)
+}
+
+/// Prints each row of a text with its answer.
+fn show_text(rt: &impl Print, alloc: Global, text: &str) -> Result<(), CaseFault> {
+    let mut out = String::new(alloc);
+    answer_text(alloc, text, &mut out)?;
+    print!(rt; "{out}")?;
     Ok(())
+}
+
+/// Prints each row of standard input with its answer.
+fn show_rows(rt: &HostRuntime) -> Result<(), CaseFault> {
+    let text = io::read_to_string(rt.alloc(), rt.reader())?;
+    show_text(rt, rt.alloc(), text.as_str())
+}
+
+fn main(rt: HostRuntime) -> Result<(), CaseFault> {
+    let words: Vec<String> = env::args(&rt)?.skip(1).collect(rt.alloc())?;
+    match words.as_slice() {
+        [word] if word.as_str() == "times" => show_times(&rt, rt.alloc()),
+        _ => show_rows(&rt),
+    }
 }

@@ -12,12 +12,12 @@
 #![tactic(auto)]
 
 mod alloc;
+mod blocks;
 pub mod collection;
 pub(crate) mod copy;
 mod growth;
 pub mod heap;
 pub mod layout;
-mod blocks;
 pub(crate) mod space;
 pub(crate) mod ticks;
 mod write;

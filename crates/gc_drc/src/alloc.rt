@@ -15,8 +15,8 @@ use gc_refs::{VMGcHeader, VMGcRef};
 use gc_types::Layouts;
 
 impl CountedSpace {
-    /// Makes an object of `size` bytes with that header and first word, whose data is 0 behind it.
-    pub(crate) fn allocate(
+    /// Allocates an object of `size` bytes with that header and first word, whose data is 0 behind it and whose count is 1.
+    pub(crate) fn allocate_counted(
         &mut self,
         header: VMGcHeader,
         first: FirstWord,

@@ -68,7 +68,7 @@ impl CountedSpace {
         }
     }
 
-    /// Makes an object of `size` bytes with that header, whose data is 0 and which one word names. The
+    /// Allocates an object of `size` bytes with that header, whose data is 0 and which one word names. The
     /// inner Err is the number of bytes that the memory would have to grow by.
     pub(crate) fn allocate_zeroed(
         &mut self,

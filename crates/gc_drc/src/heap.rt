@@ -279,7 +279,7 @@ impl GcHeap for DrcHeap {
         size: u64,
     ) -> Result<Result<VMGcRef, u64>, HeapFault> {
         match &mut self.backing {
-            Backing::Attached(space) => space.allocate(header, first, size),
+            Backing::Attached(space) => space.allocate_counted(header, first, size),
             _ => unreachable!(),
         }
     }

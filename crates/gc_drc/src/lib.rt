@@ -23,6 +23,7 @@
 
 mod alloc;
 mod barriers;
+mod blocks;
 pub(crate) mod collect;
 pub mod collection;
 mod counting;
@@ -30,7 +31,6 @@ mod give;
 mod growth;
 pub mod heap;
 pub mod laws;
-mod blocks;
 pub(crate) mod space;
 mod write;
 

@@ -123,7 +123,8 @@ fn wait_further(walk: &mut Walk, frame: Frame) -> Result<(), AllocError>
 fn look_at(walk: &mut Walk, frame: Frame, needed: usize) -> Result<bool, AllocError>
     requires below { needed < length walk.old.marks.items }
     requires small { frame.next < 2 ^ 64 - 1 }
-    ensures went { IfOk result (λ went. (early : ℕ → ℕ → Option ℕ) → IsWalk early (waiting (walk_parts walk.old) frame) → early frame.object frame.next ≡ Some needed
+    ensures went { IfOk result (λ went. (early : ℕ → ℕ → Option ℕ) → IsWalk early (waiting (walk_parts walk.old) frame)
+        → early frame.object frame.next ≡ Some needed
         → Went early (waiting (walk_parts walk.old) frame) (walk_parts walk.new) went) }
     ensures leads { IfOk result (λ went. (early : ℕ → ℕ → Option ℕ) (counts : ℕ → ℕ) → IsWalk early (waiting (walk_parts walk.old) frame)
         → early frame.object frame.next ≡ Some needed → frame.next < counts frame.object → went ≡ true

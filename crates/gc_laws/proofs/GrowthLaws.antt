@@ -8,7 +8,7 @@ use Rattle.gc_model.specs.Table.{Table}
 use Rattle.gc_view.specs.Sizes.{alignment, need_of}
 use Rattle.gc_model.specs.Reach.{AreAll, IsKept}
 use Rattle.gc_view.specs.Pages.{page}
-use Rattle.gc_model.specs.Allocation.{Fits, Limits, asked, skipped, MayHave, MayRefuse}
+use Rattle.gc_model.specs.Allocation.{FitsBump, Limits, asked, skipped, MayHave, MayRefuse}
 use Rattle.gc_policy.specs.Accounts.{Account, is_due}
 use Rattle.gc_owner.specs.Growing as growth
 use Rattle.gc_owner.specs.Growing.{AsksFirst, AsksPages}
@@ -81,7 +81,7 @@ pages_keep pages bytes limits l g (growth.granted may) = refl
 
 -- whether there is room is decided, where no place is told
 fits_alike : (k : Layouts) → ¬ (k ≡ Counting) → (size : ℕ) (p q : PolicyState ℕ) → p.table ≡ q.table → ((f : ℕ → ℕ) → sum (map f p.account.held) ≡ sum (map f q.account.held)) → FitsNow k size p → FitsNow k size q
-fits_alike Null told_nowhere size p q table held fits = subst (λ (t : Table ℕ). Fits t size) table fits
+fits_alike Null told_nowhere size p q table held fits = subst (λ (t : Table ℕ). FitsBump t size) table fits
 fits_alike Counting told_nowhere size p q table held fits = absurd (told_nowhere refl)
 fits_alike Copying told_nowhere size p q table held fits =
     let blocks = ap (λ (t : Table ℕ). sum (map (block_bytes_at Copying t) p.account.held)) table ∙ held (block_bytes_at Copying q.table) in

@@ -20,8 +20,8 @@ abbrev pub Rose : ℕ → ℕ → Type 0
 Rose before now = min (before + 1) (2 ^ 64 - 1) ≤ now
 
 -- the null heap has room for so many bytes behind its objects
-abbrev pub Fits : {D : Type 0} → Table D → ℕ → Type 0
-Fits t size = round_up (next_place t) alignment + size ≤ page * t.pages
+abbrev pub FitsBump : {D : Type 0} → Table D → ℕ → Type 0
+FitsBump t size = round_up (next_place t) alignment + size ≤ page * t.pages
 
 -- the bytes of the object at a position as a copying heap takes them, in whole multiples of 16
 abbrev pub copied_size : {D : Type 0} → Table D → ℕ → ℕ
@@ -40,7 +40,7 @@ pub record FitsHalf {D : Type 0} (t : Table D) (size : ℕ) : Type 0 where
 -- A heap of the kind has room for so many bytes: the null heap behind its objects, the copying heap
 -- beside the reachable ones, the counting heap between the reachable ones, where they lie.
 abbrev pub FitsIn : {D : Type 0} → Layouts → Placing → Table D → ℕ → Type 0
-FitsIn Null places t size = Fits t size
+FitsIn Null places t size = FitsBump t size
 FitsIn Counting places t size = HasGap (KeptAt Counting t places) t size
 FitsIn Copying places t size = FitsHalf t size
 

@@ -34,7 +34,12 @@ impl<H: GcHeap> Model for Mutator<H> {
 
     ghost view = { λ m. record { heap = H.seen m.heap; roots = m.roots.roots; types = m.types.declarations; hosts = m.hosts.entries } };
 
-    ghost invariant = { λ m. IsMutatorReady H.KIND (H.sound m.heap) (record { heap = H.seen m.heap; roots = m.roots.roots; types = m.types.declarations; hosts = m.hosts.entries }) };
+    ghost invariant = { λ m. IsMutatorReady H.KIND (H.sound m.heap) (record {
+      heap = H.seen m.heap;
+      roots = m.roots.roots;
+      types = m.types.declarations;
+      hosts = m.hosts.entries;
+    }) };
 }
 
 impl<H: GcHeap + Drop> Mutator<H> {

@@ -88,7 +88,7 @@ IsMadeOf s t (request.Array ty count) vs o = IsArrayOf s t ty vs o
 pub record MakesObject {D : Type 0} (asks : Object D → Type 0) (layouts : Layouts) (counter : Option ℕ) (p : PolicyState D) (limits' : Limits)
     (handle : GcRootIndex) (new : StoreView D) : Type 0 where
   pub object : Object D
-  pub place_answer : asks object
+  pub asked : asks object
   pub placed : PlacesObject layouts counter object p limits' handle new
   pub named : NamesReference new (make object placed.after.table) handle (at (length p.table.objects))
 

@@ -15,8 +15,8 @@ use crate::marks::{AnyRef, ArrayRef, StructRef};
 use crate::places::{array_in, number_in, object_at, struct_in};
 use gc_heap::GcHeap;
 use gc_refs::I31;
-use gc_store::laws::stores_hold_tables;
 use gc_rooted::{Rooted, RootedGcRef};
+use gc_store::laws::stores_hold_tables;
 use gc_store::{RootFault, Store};
 
 impl AnyRef {

@@ -29,8 +29,8 @@ use crate::marks::ArrayRef;
 use crate::places::{array_at, element_of};
 use crate::val::{Val, raw_of};
 use gc_heap::GcHeap;
-use gc_store::laws::stores_hold_tables;
 use gc_rooted::{Rooted, RootedGcRef};
+use gc_store::laws::stores_hold_tables;
 use gc_store::{Contents, Place, ResourceLimiter, RootFault, Store};
 use gc_types::ArrayType;
 

@@ -19,8 +19,8 @@ use crate::marks::{ArrayRef, ExnRef, StructRef};
 use crate::places::{NamedArray, array_at, element_of, exn_at, struct_at};
 use crate::values::{Elems, Fields, Values};
 use gc_heap::GcHeap;
-use gc_store::laws::stores_hold_tables;
 use gc_rooted::RootedGcRef;
+use gc_store::laws::stores_hold_tables;
 use gc_store::{GcRootIndex, Store};
 use gc_types::VMSharedTypeIndex;
 

@@ -26,8 +26,8 @@ use crate::marks::ExnRef;
 use crate::places::{exn_at, has_param_count, param_at};
 use crate::val::Val;
 use gc_heap::GcHeap;
-use gc_store::laws::stores_hold_tables;
 use gc_rooted::{Rooted, RootedGcRef};
+use gc_store::laws::stores_hold_tables;
 use gc_store::{Place, ResourceLimiter, RootFault, Store};
 use gc_types::{ExnType, Tag};
 

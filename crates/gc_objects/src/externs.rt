@@ -19,8 +19,8 @@ ghost use Rattle.gc_objects.specs.Hosts.{IsHostHanded, MakesHost, TellsHostValue
 use crate::faults::AllocFault;
 use crate::marks::{AnyRef, ExternRef};
 use gc_heap::GcHeap;
-use gc_store::laws::stores_hold_tables;
 use gc_rooted::{Rooted, RootedGcRef};
+use gc_store::laws::stores_hold_tables;
 use gc_store::{GcRootIndex, HostDataFault, PlaceHostFault, ResourceLimiter, RootFault, Store};
 
 /// What the store answered to a host value, as a typed handle.

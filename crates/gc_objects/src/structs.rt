@@ -28,8 +28,8 @@ use crate::marks::StructRef;
 use crate::places::{field_at, has_field_count, struct_at};
 use crate::val::Val;
 use gc_heap::GcHeap;
-use gc_store::laws::stores_hold_tables;
 use gc_rooted::{Rooted, RootedGcRef};
+use gc_store::laws::stores_hold_tables;
 use gc_store::{Place, ResourceLimiter, RootFault, Store};
 use gc_types::StructType;
 

@@ -6,8 +6,8 @@ ghost use Rattle.gc_objects.specs.Thrown.{thrown};
 use crate::marks::ExnRef;
 use crate::places::exn_at;
 use gc_heap::GcHeap;
-use gc_store::laws::stores_hold_tables;
 use gc_rooted::{Rooted, RootedGcRef};
+use gc_store::laws::stores_hold_tables;
 use gc_store::{RootFault, Store};
 use thiserror::Error;
 

@@ -10,7 +10,7 @@ use Rattle.gc_model.specs.Sizes.{next_place}
 use Rattle.gc_model.specs.Reach.{AreAll, IsKept}
 use Rattle.gc_model.specs.Gaps.{LiesAt, AreCut, IsGap, HasGap, IsFront}
 use Rattle.gc_view.specs.Pages.{page}
-use Rattle.gc_model.specs.Allocation.{Limits, Fits, asked, skipped}
+use Rattle.gc_model.specs.Allocation.{Limits, FitsBump, asked, skipped}
 use Rattle.gc_policy.specs.Accounts.{Account, counted, is_due}
 use Rattle.gc_owner.specs.Growing.{AsksFirst, AsksPages, collects_first}
 use Rattle.gc_owner.specs.Retry.{Rules, Retry, Paused}
@@ -37,7 +37,7 @@ LiesNow p position word = LiesAt p.account.places position word
 
 -- The heap has room for so many bytes beside what it holds, garbage among it.
 abbrev pub FitsNow : {D : Type 0} → Layouts → ℕ → PolicyState D → Type 0
-FitsNow Null size p = Fits p.table size
+FitsNow Null size p = FitsBump p.table size
 FitsNow Counting size p = HasGap (LiesNow p) p.table size
 FitsNow Copying size p = skipped + sum (map (block_bytes_at Copying p.table) p.account.held) + round_up size alignment ≤ page / 2 * p.table.pages
 

@@ -26,7 +26,8 @@ use gc_store::{Collecting, Store};
 
 /// A handle names one push for ever: no two pushes of a store have the same index and generation.
 pub fn handles_name_one_root<H: GcHeap, D: Drop>(store: &Store<H, D>)
-    ensures { (t : Table D) (handle : GcRootIndex) (x y : ℕ) → HoldsTable H.KIND store.now t → NamesSerial store.now t handle x → NamesSerial store.now t handle y → x ≡ y }
+    ensures { (t : Table D) (handle : GcRootIndex) (x y : ℕ) → HoldsTable H.KIND store.now t → NamesSerial store.now t handle x
+        → NamesSerial store.now t handle y → x ≡ y }
 {}
 
 /// That two handles are live and name the same reference is an equivalence, and no collection changes it: a handle, scoped

@@ -1,13 +1,13 @@
 //! Answers a case.
 
-use crate::compare::compare;
+use crate::compare::{Compared, show_match};
 use crate::fault::CaseFault;
-use crate::lookups::{look_up, show_declared};
-use crate::small::ask_small;
-use crate::table::{begin, declare, declare_many, no_types};
+use crate::lookups::{Looked, look_up, show_declared};
+use crate::row::{firsts, named};
+use crate::small::{Asked, ask_small};
+use crate::table::{Declared, declare, fill_chain, fill_family, no_types};
 use gc_types::Types;
 use std::alloc::Global;
-use std::io::Write;
 
 /// The table that the cases ask.
 #[derive(Drop)]
@@ -16,27 +16,58 @@ pub(crate) struct Cases {
     types: Types,
 }
 
-/// What a case does, as its first word says.
-enum Does {
-    Begins,
-    Compares,
-    Declares,
-    DeclaresMany,
-    LooksUp,
-    AsksSmall,
+/// The table that a case begins with.
+#[derive(Clone, Copy)]
+enum Begun {
+    Table,
+    Family,
+    Chain,
 }
 
-/// What a case does that begins with a word.
-fn done_by(word: &str) -> Does {
-    match word {
-        "table" | "family" | "chain" => Does::Begins,
-        "subtype" | "ref" | "value" | "field" => Does::Compares,
-        "structs" | "exns" | "funcs" => Does::DeclaresMany,
-        "struct" | "array" | "func" | "exn" => Does::Declares,
-        "about" | "holds" | "elem" | "names" | "layout" | "elems" | "climb" => Does::LooksUp,
-        _ => Does::AsksSmall,
-    }
+/// What a case does.
+#[derive(Clone, Copy)]
+enum Does {
+    Begins(Begun),
+    Compares(Compared),
+    Declares(Declared),
+    LooksUp(Looked),
+    Asks(Asked),
 }
+
+/// What a case does, by its first word.
+const CASES: [(&str, Does); 31] = [
+    ("table", Does::Begins(Begun::Table)),
+    ("family", Does::Begins(Begun::Family)),
+    ("chain", Does::Begins(Begun::Chain)),
+    ("subtype", Does::Compares(Compared::Indexes)),
+    ("ref", Does::Compares(Compared::Refs)),
+    ("value", Does::Compares(Compared::Values)),
+    ("field", Does::Compares(Compared::Fields)),
+    ("struct", Does::Declares(Declared::Struct)),
+    ("array", Does::Declares(Declared::Array)),
+    ("func", Does::Declares(Declared::Func)),
+    ("exn", Does::Declares(Declared::Exn)),
+    ("structs", Does::Declares(Declared::WideStruct)),
+    ("exns", Does::Declares(Declared::WideExn)),
+    ("funcs", Does::Declares(Declared::WideFunc)),
+    ("about", Does::LooksUp(Looked::About)),
+    ("holds", Does::LooksUp(Looked::Holds)),
+    ("elem", Does::LooksUp(Looked::Elem)),
+    ("names", Does::LooksUp(Looked::Names)),
+    ("layout", Does::LooksUp(Looked::Layouts)),
+    ("elems", Does::LooksUp(Looked::Elems)),
+    ("climb", Does::LooksUp(Looked::Climb)),
+    ("faults", Does::Asks(Asked::Faults)),
+    ("reserved", Does::Asks(Asked::Reserved)),
+    ("laws", Does::Asks(Asked::Laws)),
+    ("top", Does::Asks(Asked::Top)),
+    ("unpack", Does::Asks(Asked::Unpack)),
+    ("kind", Does::Asks(Asked::Kind)),
+    ("bits", Does::Asks(Asked::Bits)),
+    ("function", Does::Asks(Asked::Function)),
+    ("offsets", Does::Asks(Asked::Offsets)),
+    ("bytes", Does::Asks(Asked::Bytes)),
+];
 
 impl Cases {
     /// An empty table.
@@ -48,51 +79,57 @@ impl Cases {
     }
 
     /// Writes the answer to a case.
-    pub(crate) fn answer<W: Write + Drop>(
+    pub(crate) fn answer(
         &mut self,
         words: &[&str],
-        out: &mut W,
+        numbers: &[u32],
+        out: &mut String,
     ) -> Result<(), CaseFault> {
         let Some((name, rest)) = words.split_first() else {
             return Err(CaseFault::BadCase);
         };
-        match done_by(name) {
-            Does::Begins => self.begin(name, rest, out),
-            Does::Compares => compare(&self.types, name, rest, out),
-            Does::Declares => self.declare(words, out),
-            Does::DeclaresMany => self.declare_many(name, rest, out),
-            Does::LooksUp => look_up(&self.types, name, rest, out),
-            Does::AsksSmall => ask_small(self.alloc, &self.types, name, rest, out),
+        let Some(does) = named(&CASES, name) else {
+            return Err(CaseFault::BadCase);
+        };
+        match does {
+            Does::Begins(begun) => self.begin(begun, numbers, out),
+            Does::Compares(compared) => show_match(&self.types, compared, rest, out),
+            Does::Declares(declared) => self.declare(declared, rest, numbers, out),
+            Does::LooksUp(looked) => look_up(&self.types, looked, rest, numbers, out),
+            Does::Asks(asked) => ask_small(self.alloc, &self.types, asked, rest, numbers, out),
         }
     }
 
     /// Takes another table.
-    fn begin<W: Write + Drop>(
-        &mut self,
-        name: &str,
-        words: &[&str],
-        out: &mut W,
-    ) -> Result<(), CaseFault> {
-        self.types = begin(self.alloc, name, words)?;
-        let is_empty = self.types.is_empty();
-        write!(out, "{}", if is_empty { "empty" } else { "begun" })?;
-        Ok(())
+    fn begin(&mut self, begun: Begun, numbers: &[u32], out: &mut String) -> Result<(), CaseFault> {
+        self.types = no_types(self.alloc);
+        self.fill(begun, numbers)?;
+        let begins = if self.types.is_empty() {
+            "empty"
+        } else {
+            "begun"
+        };
+        Ok(out.push_str(begins)?)
+    }
+
+    /// Declares the types that a table begins with.
+    fn fill(&mut self, begun: Begun, numbers: &[u32]) -> Result<(), CaseFault> {
+        match begun {
+            Begun::Table => Ok(()),
+            Begun::Family => fill_family(self.alloc, &mut self.types),
+            Begun::Chain => fill_chain(&mut self.types, firsts(numbers)[0]),
+        }
     }
 
     /// Declares a type.
-    fn declare<W: Write + Drop>(&mut self, words: &[&str], out: &mut W) -> Result<(), CaseFault> {
-        let declared = declare(self.alloc, &mut self.types, words)?;
-        show_declared(declared, out)
-    }
-
-    /// Declares a type with many parts.
-    fn declare_many<W: Write + Drop>(
+    fn declare(
         &mut self,
-        name: &str,
+        declared: Declared,
         words: &[&str],
-        out: &mut W,
+        numbers: &[u32],
+        out: &mut String,
     ) -> Result<(), CaseFault> {
-        let declared = declare_many(self.alloc, &mut self.types, name, words)?;
-        show_declared(declared, out)
+        let ty = declare(self.alloc, &mut self.types, declared, words, numbers)?;
+        Ok(show_declared(ty, out)?)
     }
 }

@@ -3,67 +3,66 @@
 use crate::fault::CaseFault;
 use crate::words::{field_of, index_of, ref_type_of, value_of};
 use gc_types::Types;
-use std::io::Write;
 
-/// Writes whether the first matches the second, as types of the kind that the name says.
-pub(crate) fn compare<W: Write + Drop>(
+/// What is compared.
+#[derive(Clone, Copy)]
+pub(crate) enum Compared {
+    Indexes,
+    Refs,
+    Values,
+    Fields,
+}
+
+/// Writes whether the first matches the second.
+pub(crate) fn show_match(
     types: &Types,
-    name: &str,
+    compared: Compared,
     words: &[&str],
-    out: &mut W,
+    out: &mut String,
 ) -> Result<(), CaseFault> {
     let [first, second] = words else {
         return Err(CaseFault::BadCase);
     };
-    match name {
-        "subtype" => compare_indexes(types, first, second, out),
-        "ref" => compare_refs(types, first, second, out),
-        "value" => compare_values(types, first, second, out),
-        "field" => compare_fields(types, first, second, out),
-        _ => Err(CaseFault::BadCase),
+    let matches = does_match(types, compared, first, second)?;
+    Ok(out.push_str(if matches { "yes" } else { "no" })?)
+}
+
+/// Whether the first matches the second.
+fn does_match(
+    types: &Types,
+    compared: Compared,
+    first: &str,
+    second: &str,
+) -> Result<bool, CaseFault> {
+    match compared {
+        Compared::Indexes => indexes_match(types, first, second),
+        Compared::Refs => refs_match(types, first, second),
+        Compared::Values => values_match(types, first, second),
+        Compared::Fields => fields_match(types, first, second),
     }
 }
 
-fn compare_indexes<W: Write + Drop>(
-    types: &Types,
-    first: &str,
-    second: &str,
-    out: &mut W,
-) -> Result<(), CaseFault> {
-    let matches = types.is_subtype(index_of(first)?, index_of(second)?);
-    write!(out, "{}", if matches { "yes" } else { "no" })?;
-    Ok(())
+fn indexes_match(types: &Types, first: &str, second: &str) -> Result<bool, CaseFault> {
+    Ok(types.is_subtype(index_of(first)?, index_of(second)?))
 }
 
-fn compare_refs<W: Write + Drop>(
-    types: &Types,
-    first: &str,
-    second: &str,
-    out: &mut W,
-) -> Result<(), CaseFault> {
-    let matches = types.matches_ref(&ref_type_of(first)?, &ref_type_of(second)?);
-    write!(out, "{}", if matches { "yes" } else { "no" })?;
-    Ok(())
+fn refs_match(types: &Types, first: &str, second: &str) -> Result<bool, CaseFault> {
+    match (ref_type_of(first), ref_type_of(second)) {
+        (Ok(first), Ok(second)) => Ok(types.matches_ref(&first, &second)),
+        (Err(fault), _) | (_, Err(fault)) => Err(fault),
+    }
 }
 
-fn compare_values<W: Write + Drop>(
-    types: &Types,
-    first: &str,
-    second: &str,
-    out: &mut W,
-) -> Result<(), CaseFault> {
-    let matches = types.matches_val(&value_of(first)?, &value_of(second)?);
-    write!(out, "{}", if matches { "yes" } else { "no" })?;
-    Ok(())
+fn values_match(types: &Types, first: &str, second: &str) -> Result<bool, CaseFault> {
+    match (value_of(first), value_of(second)) {
+        (Ok(first), Ok(second)) => Ok(types.matches_val(&first, &second)),
+        (Err(fault), _) | (_, Err(fault)) => Err(fault),
+    }
 }
 
-fn compare_fields<W: Write + Drop>(
-    types: &Types,
-    first: &str,
-    second: &str,
-    out: &mut W,
-) -> Result<(), CaseFault> {
-    let matches = types.matches_field(&field_of(first)?, &field_of(second)?);
-    write!(out, "{}", if matches { "yes" } else { "no" })?;
-    Ok(())
+fn fields_match(types: &Types, first: &str, second: &str) -> Result<bool, CaseFault> {
+    match (field_of(first), field_of(second)) {
+        (Ok(first), Ok(second)) => Ok(types.matches_field(&first, &second)),
+        (Err(fault), _) | (_, Err(fault)) => Err(fault),
+    }
 }

@@ -26,46 +26,62 @@ mod case;
 mod compare;
 mod fault;
 mod lookups;
+mod row;
 mod small;
 mod table;
 mod words;
 
 use crate::case::Cases;
 use crate::fault::CaseFault;
-use std::alloc::Global;
+use crate::row::row_of;
+use std::alloc::{AllocError, Global};
 use std::io;
-use std::io::{BufWriter, Write};
 
-/// Prints each case of a text with its answer.
-fn answer_cases<W: Write + Drop>(alloc: Global, text: &str, out: &mut W) -> Result<(), CaseFault> {
-    let mut cases = Cases::new(alloc);
+/// Adds each case of a text with its answer.
+fn answer_cases(
+    alloc: Global,
+    cases: &mut Cases,
+    text: &str,
+    out: &mut String,
+) -> Result<(), CaseFault> {
     for line in text.lines() {
         if !line.is_empty() && !line.starts_with("//") {
-            answer_case(alloc, &mut cases, line, out)?;
+            answer_case(alloc, cases, line, out)?;
         }
     }
     Ok(())
 }
 
-/// Prints a case with its answer.
-fn answer_case<W: Write + Drop>(
+/// Adds a case with its answer.
+fn answer_case(
     alloc: Global,
     cases: &mut Cases,
     line: &str,
-    out: &mut W,
+    out: &mut String,
 ) -> Result<(), CaseFault> {
-    let words: Vec<&str> = line.split_whitespace().collect(alloc)?;
-    write!(out, "{line}: ")?;
-    cases.answer(words.as_slice(), out)?;
-    writeln!(out)?;
-    Ok(())
+    let row = row_of(alloc, line)?;
+    push_name(line, out)?;
+    cases.answer(row.words.as_slice(), row.numbers.as_slice(), out)?;
+    Ok(out.push('\n')?)
+}
+
+/// Adds what stands in front of an answer.
+fn push_name(line: &str, out: &mut String) -> Result<(), AllocError> {
+    out.push_str(line)?;
+    out.push_str(": ")
+}
+
+/// What must be printed of a text.
+fn answers(alloc: Global, text: &str) -> Result<String, CaseFault> {
+    let mut out = String::new(alloc);
+    let mut cases = Cases::new(alloc);
+    answer_cases(alloc, &mut cases, text, &mut out)?;
+    Ok(out)
 }
 
 fn main(rt: HostRuntime) -> Result<(), CaseFault> {
-    let alloc = rt.alloc();
-    let text = io::read_to_string(alloc, rt.reader())?;
-    let mut out = BufWriter::new(alloc, io::writer(&rt))?;
-    answer_cases(alloc, text.as_str(), &mut out)?;
-    out.flush()?;
+    let text = io::read_to_string(rt.alloc(), rt.reader())?;
+    let shown = answers(rt.alloc(), text.as_str())?;
+    print!(rt; "{shown}")?;
     Ok(())
 }

@@ -1,117 +1,152 @@
 //! The small calls of types, kinds and layouts.
 
 use crate::fault::CaseFault;
-use crate::words::{heap_type_of, kind_of, storage_of};
-use gc_types::{Func, GcArrayLayout, Offsets, TypeFault, Types, VMGcKind, VMSharedTypeIndex};
-use std::alloc::Global;
-use std::io::Write;
+use crate::row::{firsts, named, word_at};
+use crate::words::{heap_type_of, storage_of};
+use gc_types::{
+    Func, GcArrayLayout, Offsets, StorageType, TypeFault, Types, VMGcKind, VMSharedTypeIndex,
+};
+use std::alloc::{AllocError, Global};
 
-const KINDS: [(VMGcKind, &str); 6] = [
-    (VMGcKind::ExternRef, "extern"),
-    (VMGcKind::AnyRef, "any"),
-    (VMGcKind::EqRef, "eq"),
-    (VMGcKind::StructRef, "struct"),
-    (VMGcKind::ArrayRef, "array"),
-    (VMGcKind::ExnRef, "exn"),
+const KINDS: [(&str, VMGcKind); 6] = [
+    ("extern", VMGcKind::ExternRef),
+    ("any", VMGcKind::AnyRef),
+    ("eq", VMGcKind::EqRef),
+    ("struct", VMGcKind::StructRef),
+    ("array", VMGcKind::ArrayRef),
+    ("exn", VMGcKind::ExnRef),
 ];
 
+/// What is asked.
+#[derive(Clone, Copy)]
+pub(crate) enum Asked {
+    Faults,
+    Reserved,
+    Laws,
+    Top,
+    Unpack,
+    Kind,
+    Bits,
+    Function,
+    Offsets,
+    Bytes,
+}
+
 /// Writes the answer of a small call.
-pub(crate) fn ask_small<W: Write + Drop>(
+pub(crate) fn ask_small(
     alloc: Global,
     types: &Types,
-    name: &str,
+    asked: Asked,
     words: &[&str],
-    out: &mut W,
+    numbers: &[u32],
+    out: &mut String,
 ) -> Result<(), CaseFault> {
-    match words {
-        [] => ask_alone(types, name, out),
-        [word] => ask_of(alloc, name, word, out),
-        [base_size, elem_size, len] => show_bytes(base_size, elem_size, len, out),
-        _ => Err(CaseFault::BadCase),
+    let word = word_at(words, 0);
+    match asked {
+        Asked::Top => show_top(word, out),
+        Asked::Unpack => show_unpacked(word, out),
+        Asked::Kind => show_kind(word, out),
+        _ => Ok(ask_plain(alloc, types, asked, firsts(numbers), out)?),
     }
 }
 
-/// Writes the texts of faults, whether the reserved index is one, or that the laws hold.
-fn ask_alone<W: Write + Drop>(types: &Types, name: &str, out: &mut W) -> Result<(), CaseFault> {
-    match name {
-        "faults" => write!(out, "{}, {}", TypeFault::BadType, TypeFault::Memory)?,
-        "reserved" => write!(out, "{}", VMSharedTypeIndex::reserved().is_reserved())?,
-        "laws" => {
-            types.are_declared();
-            VMGcKind::masks();
-            write!(out, "hold")?;
-        }
-        _ => return Err(CaseFault::BadCase),
-    }
-    Ok(())
-}
-
-/// Writes the answer of a call that takes a word.
-fn ask_of<W: Write + Drop>(
+/// Writes the answer of a small call that takes numbers.
+fn ask_plain(
     alloc: Global,
-    name: &str,
-    word: &str,
-    out: &mut W,
-) -> Result<(), CaseFault> {
-    match name {
-        "top" => show_top(word, out),
-        "unpack" => show_unpacked(word, out),
-        "kind" => show_kind(word, out),
-        "bits" => show_bits(word, out),
-        "function" => show_function(word, out),
-        "offsets" => show_offsets(alloc, word, out),
-        _ => Err(CaseFault::BadCase),
+    types: &Types,
+    asked: Asked,
+    numbers: [u32; 3],
+    out: &mut String,
+) -> Result<(), AllocError> {
+    let [number, ..] = numbers;
+    match asked {
+        Asked::Faults => show_faults(out),
+        Asked::Reserved => show_reserved(out),
+        Asked::Laws => show_laws(types, out),
+        Asked::Bits => show_bits(number, out),
+        Asked::Function => show_function(number, out),
+        Asked::Offsets => show_offsets(alloc, number, out),
+        Asked::Bytes => show_bytes(numbers, out),
+        Asked::Top | Asked::Unpack | Asked::Kind => Ok(()),
     }
+}
+
+/// Writes the texts of faults.
+fn show_faults(out: &mut String) -> Result<(), AllocError> {
+    write!(out, "{}, {}", TypeFault::BadType, TypeFault::Memory)
+}
+
+/// Writes whether the reserved index is one.
+fn show_reserved(out: &mut String) -> Result<(), AllocError> {
+    write!(out, "{}", VMSharedTypeIndex::reserved().is_reserved())
+}
+
+/// Calls the laws, and writes that they hold.
+fn show_laws(types: &Types, out: &mut String) -> Result<(), AllocError> {
+    types.are_declared();
+    VMGcKind::masks();
+    out.push_str("hold")
 }
 
 /// Writes the top of the hierarchy of a heap type.
-fn show_top<W: Write + Drop>(word: &str, out: &mut W) -> Result<(), CaseFault> {
-    write!(out, "{:?}", heap_type_of(word)?.top())?;
-    Ok(())
+fn show_top(word: &str, out: &mut String) -> Result<(), CaseFault> {
+    let top = heap_type_of(word)?.top();
+    Ok(write!(out, "{top:?}")?)
 }
 
 /// Writes what is read of a field, and whether it is packed.
-fn show_unpacked<W: Write + Drop>(word: &str, out: &mut W) -> Result<(), CaseFault> {
-    let storage = storage_of(word)?;
+fn show_unpacked(word: &str, out: &mut String) -> Result<(), CaseFault> {
+    match storage_of(word) {
+        Ok(storage) => Ok(show_storage(&storage, out)?),
+        Err(fault) => Err(fault),
+    }
+}
+
+/// Writes what is read of a field, and whether it is packed.
+fn show_storage(storage: &StorageType, out: &mut String) -> Result<(), AllocError> {
     let (is_i8, is_i16) = (storage.is_i8(), storage.is_i16());
-    write!(out, "{:?}, i8 {is_i8}, i16 {is_i16}", storage.unpack())?;
-    Ok(())
+    let unpacked = storage.unpack();
+    write!(out, "{unpacked:?}, i8 {is_i8}, i16 {is_i16}")
 }
 
 /// Writes the kind in the high bits of a number, and whether the number fits in the others.
-fn show_bits<W: Write + Drop>(word: &str, out: &mut W) -> Result<(), CaseFault> {
-    let word: u32 = word.parse()?;
+fn show_bits(word: u32, out: &mut String) -> Result<(), AllocError> {
     let fits = VMGcKind::value_fits_in_unused_bits(word);
     let kind = VMGcKind::from_high_bits_of_u32(word);
-    write!(out, "{kind:?}, fits {fits}")?;
-    Ok(())
+    write!(out, "{kind:?}, fits {fits}")
 }
 
 /// Writes whether a number is one of a function.
-fn show_function<W: Write + Drop>(word: &str, out: &mut W) -> Result<(), CaseFault> {
-    let func = Func::new(word.parse()?, VMSharedTypeIndex::reserved());
-    write!(out, "{}", func.is_some())?;
-    Ok(())
+fn show_function(number: u32, out: &mut String) -> Result<(), AllocError> {
+    let func = Func::new(number, VMSharedTypeIndex::reserved());
+    write!(out, "{}", func.is_some())
 }
 
 /// Writes how many offsets so many are, made of a vector and turned into one.
-fn show_offsets<W: Write + Drop>(alloc: Global, word: &str, out: &mut W) -> Result<(), CaseFault> {
-    let offsets = Offsets::from(vec![in alloc; 8; word.parse::<usize>()?]?);
-    write!(out, "{}", offsets.into_vec().len())?;
-    Ok(())
+fn show_offsets(alloc: Global, count: u32, out: &mut String) -> Result<(), AllocError> {
+    let offsets = Offsets::from(vec![in alloc; 8; count as usize]?);
+    let len = offsets.into_vec().len();
+    write!(out, "{len}")
 }
 
 /// Writes the bits of a kind, the kind that they are read as, and the kinds that it matches.
-fn show_kind<W: Write + Drop>(word: &str, out: &mut W) -> Result<(), CaseFault> {
-    let kind = kind_of(word)?;
+fn show_kind(word: &str, out: &mut String) -> Result<(), CaseFault> {
+    match named(&KINDS, word) {
+        Some(kind) => Ok(show_bits_of(kind, out)?),
+        None => Err(CaseFault::BadCase),
+    }
+}
+
+/// Writes the bits of a kind, the kind that they are read as, and the kinds that it matches.
+fn show_bits_of(kind: VMGcKind, out: &mut String) -> Result<(), AllocError> {
     let read = VMGcKind::from_high_bits_of_u32(kind.as_u32() | VMGcKind::UNUSED_MASK);
     write!(out, "{:#x}, {read:?}", kind.as_u32())?;
     show_matched(kind, out)
 }
 
 /// Writes the kinds that a kind matches.
-fn show_matched<W: Write + Drop>(kind: VMGcKind, out: &mut W) -> Result<(), CaseFault> {
-    for (other, name) in KINDS {
+fn show_matched(kind: VMGcKind, out: &mut String) -> Result<(), AllocError> {
+    for (name, other) in KINDS {
         if kind.matches(other) {
             write!(out, ", {name}")?;
         }
@@ -119,24 +154,14 @@ fn show_matched<W: Write + Drop>(kind: VMGcKind, out: &mut W) -> Result<(), Case
     Ok(())
 }
 
-/// Writes the bytes of an array of that length.
-fn show_bytes<W: Write + Drop>(
-    base_size: &str,
-    elem_size: &str,
-    len: &str,
-    out: &mut W,
-) -> Result<(), CaseFault> {
+/// Writes the bytes of an array whose elements begin there, have that width, and are so many.
+fn show_bytes(numbers: [u32; 3], out: &mut String) -> Result<(), AllocError> {
+    let [base_size, elem_size, len] = numbers;
     let layout = GcArrayLayout {
-        base_size: base_size.parse()?,
-        elem_size: elem_size.parse()?,
+        base_size,
+        elem_size,
         elems_are_gc_refs: false,
     };
-    let len = len.parse()?;
-    write!(
-        out,
-        "{:?}, end {:?}",
-        layout.size(len),
-        layout.elem_offset(len)
-    )?;
-    Ok(())
+    let (size, end) = (layout.size(len), layout.elem_offset(len));
+    write!(out, "{size:?}, end {end:?}")
 }

@@ -1,6 +1,7 @@
 //! The tables that the cases begin with, and the types that they declare.
 
 use crate::fault::CaseFault;
+use crate::row::{firsts, named, row_of};
 use crate::words::{fields_of, finality_of, supertype_of, values_of};
 use gc_types::{FieldType, Mutability, StorageType, TypeFault, Types, VMSharedTypeIndex, ValType};
 use std::alloc::Global;
@@ -32,55 +33,84 @@ pub(crate) fn no_types(alloc: Global) -> Types {
     Types::new(alloc, engine, number)
 }
 
-/// The table of the family.
-fn family(alloc: Global) -> Result<Types, CaseFault> {
-    let mut types = no_types(alloc);
+/// What is declared.
+#[derive(Clone, Copy)]
+pub(crate) enum Declared {
+    Struct,
+    Array,
+    Func,
+    Exn,
+    WideStruct,
+    WideExn,
+    WideFunc,
+}
+
+/// What the types of a family are, by the first word of a line.
+const DECLARED: [(&str, Declared); 4] = [
+    ("struct", Declared::Struct),
+    ("array", Declared::Array),
+    ("func", Declared::Func),
+    ("exn", Declared::Exn),
+];
+
+/// Declares the types of a family in a table without types.
+pub(crate) fn fill_family(alloc: Global, types: &mut Types) -> Result<(), CaseFault> {
     for line in FAMILY.lines() {
-        let words: Vec<&str> = line.split_whitespace().collect(alloc)?;
-        declare(alloc, &mut types, words.as_slice())?;
+        declare_line(alloc, types, line)?;
     }
-    Ok(types)
+    Ok(())
 }
 
-/// The table that a case begins with.
-pub(crate) fn begin(alloc: Global, name: &str, words: &[&str]) -> Result<Types, CaseFault> {
-    match (name, words) {
-        ("table", []) => Ok(no_types(alloc)),
-        ("family", []) => family(alloc),
-        ("chain", [count]) => chain(alloc, count),
-        _ => Err(CaseFault::BadCase),
-    }
+/// Declares the type of a line.
+fn declare_line(alloc: Global, types: &mut Types, line: &str) -> Result<(), CaseFault> {
+    let row = row_of(alloc, line)?;
+    declare_words(alloc, types, row.words.as_slice())
 }
 
-/// The table of so many structs, each of which extends the one before it.
-fn chain(alloc: Global, count: &str) -> Result<Types, CaseFault> {
-    let count: u32 = count.parse()?;
-    let mut types = no_types(alloc);
+/// Declares the type that words tell.
+fn declare_words(alloc: Global, types: &mut Types, words: &[&str]) -> Result<(), CaseFault> {
+    let Some((name, rest)) = words.split_first() else {
+        return Err(CaseFault::BadCase);
+    };
+    let Some(declared) = named(&DECLARED, name) else {
+        return Err(CaseFault::BadCase);
+    };
+    declare(alloc, types, declared, rest, &[])?;
+    Ok(())
+}
+
+/// Declares so many structs, each of which extends the one before it, in a table without types.
+pub(crate) fn fill_chain(types: &mut Types, count: u32) -> Result<(), CaseFault> {
     let mut supertype = None;
     for _ in 0..count {
         let ty = types.declare_struct(&[], supertype, false)?;
         supertype = Some(ty.index());
     }
-    Ok(types)
+    Ok(())
 }
 
-/// The index of the type that the words declare, or none where it is refused.
+/// The index of the type that is declared, or none where it is refused.
 pub(crate) fn declare(
     alloc: Global,
     types: &mut Types,
+    declared: Declared,
     words: &[&str],
+    numbers: &[u32],
 ) -> Result<Option<VMSharedTypeIndex>, CaseFault> {
-    match words.split_first() {
-        Some((&"struct", rest)) => declare_struct(alloc, types, rest),
-        Some((&"array", rest)) => declare_array(alloc, types, rest),
-        Some((&"func", rest)) => declare_func(alloc, types, rest),
-        Some((&"exn", rest)) => declare_exn(alloc, types, rest),
-        _ => Err(CaseFault::BadCase),
+    let [first, second, _] = firsts(numbers);
+    match declared {
+        Declared::Struct => declare_struct(alloc, types, words),
+        Declared::Array => declare_array(alloc, types, words),
+        Declared::Func => declare_func(alloc, types, words),
+        Declared::Exn => declare_exn(alloc, types, words),
+        Declared::WideStruct => declare_wide_struct(alloc, types, first),
+        Declared::WideExn => declare_wide_exn(alloc, types, first),
+        Declared::WideFunc => declare_wide_func(alloc, types, first, second),
     }
 }
 
 /// The index of a type that was declared, or none where it was refused.
-fn declared(
+fn unless_refused(
     answer: Result<VMSharedTypeIndex, TypeFault>,
 ) -> Result<Option<VMSharedTypeIndex>, CaseFault> {
     match answer {
@@ -106,11 +136,13 @@ fn declare_struct(
     types: &mut Types,
     words: &[&str],
 ) -> Result<Option<VMSharedTypeIndex>, CaseFault> {
-    let (head, rest) = words.split_at_checked(2).ok_or(CaseFault::BadCase)?;
+    let Some((head, rest)) = words.split_at_checked(2) else {
+        return Err(CaseFault::BadCase);
+    };
     let (supertype, is_final) = head_of(head)?;
     let fields = fields_of(alloc, rest)?;
     let answer = types.declare_struct(fields.as_slice(), supertype, is_final);
-    declared(answer.map(|ty| ty.index()))
+    unless_refused(answer.map(|ty| ty.index()))
 }
 
 fn declare_array(
@@ -118,14 +150,16 @@ fn declare_array(
     types: &mut Types,
     words: &[&str],
 ) -> Result<Option<VMSharedTypeIndex>, CaseFault> {
-    let (head, rest) = words.split_at_checked(2).ok_or(CaseFault::BadCase)?;
+    let Some((head, rest)) = words.split_at_checked(2) else {
+        return Err(CaseFault::BadCase);
+    };
     let (supertype, is_final) = head_of(head)?;
     let elems = fields_of(alloc, rest)?;
     let [elem] = elems.as_slice() else {
         return Err(CaseFault::BadCase);
     };
     let answer = types.declare_array(*elem, supertype, is_final);
-    declared(answer.map(|ty| ty.index()))
+    unless_refused(answer.map(|ty| ty.index()))
 }
 
 fn declare_func(
@@ -133,11 +167,13 @@ fn declare_func(
     types: &mut Types,
     words: &[&str],
 ) -> Result<Option<VMSharedTypeIndex>, CaseFault> {
-    let (head, rest) = words.split_at_checked(2).ok_or(CaseFault::BadCase)?;
+    let Some((head, rest)) = words.split_at_checked(2) else {
+        return Err(CaseFault::BadCase);
+    };
     let (supertype, is_final) = head_of(head)?;
     let (params, results) = signature_of(alloc, rest)?;
     let answer = types.declare_func(params.as_slice(), results.as_slice(), supertype, is_final);
-    declared(answer.map(|ty| ty.index()))
+    unless_refused(answer.map(|ty| ty.index()))
 }
 
 fn declare_exn(
@@ -146,74 +182,49 @@ fn declare_exn(
     words: &[&str],
 ) -> Result<Option<VMSharedTypeIndex>, CaseFault> {
     let params = values_of(alloc, words)?;
-    declared(types.declare_exn(params.as_slice()).map(|ty| ty.index()))
+    unless_refused(types.declare_exn(params.as_slice()).map(|ty| ty.index()))
 }
 
 /// The parameters and the results that stand before and behind an arrow.
 fn signature_of(alloc: Global, words: &[&str]) -> Result<(Vec<ValType>, Vec<ValType>), CaseFault> {
-    let at = arrow_at(words).ok_or(CaseFault::BadCase)?;
-    let (params, behind) = words.split_at_checked(at).ok_or(CaseFault::BadCase)?;
-    let Some((_arrow, results)) = behind.split_first() else {
+    let Some(at) = words.iter().position(|word| *word == "->") else {
         return Err(CaseFault::BadCase);
     };
-    Ok((values_of(alloc, params)?, values_of(alloc, results)?))
-}
-
-/// Where the arrow stands.
-fn arrow_at(words: &[&str]) -> Option<usize> {
-    for (index, word) in words.iter().enumerate() {
-        if *word == "->" {
-            return Some(index);
-        }
-    }
-    None
-}
-
-/// The index of a type with many parts of 32 bits, or none where it is refused.
-pub(crate) fn declare_many(
-    alloc: Global,
-    types: &mut Types,
-    name: &str,
-    words: &[&str],
-) -> Result<Option<VMSharedTypeIndex>, CaseFault> {
-    match (name, words) {
-        ("structs", [count]) => declare_wide_struct(alloc, types, count),
-        ("exns", [count]) => declare_wide_exn(alloc, types, count),
-        ("funcs", [params, results]) => declare_wide_func(alloc, types, params, results),
-        _ => Err(CaseFault::BadCase),
-    }
+    let params = values_of(alloc, &words[..at])?;
+    let results = values_of(alloc, &words[at + 1..])?;
+    Ok((params, results))
 }
 
 fn declare_wide_struct(
     alloc: Global,
     types: &mut Types,
-    count: &str,
+    count: u32,
 ) -> Result<Option<VMSharedTypeIndex>, CaseFault> {
-    let fields = vec![in alloc; NUMBER; count.parse::<usize>()?]?;
+    let fields = vec![in alloc; NUMBER; count as usize]?;
     let answer = types.declare_struct(fields.as_slice(), None, false);
-    declared(answer.map(|ty| ty.index()))
+    unless_refused(answer.map(|ty| ty.index()))
 }
 
 fn declare_wide_exn(
     alloc: Global,
     types: &mut Types,
-    count: &str,
+    count: u32,
 ) -> Result<Option<VMSharedTypeIndex>, CaseFault> {
-    let params = vec![in alloc; ValType::I32; count.parse::<usize>()?]?;
+    let params = vec![in alloc; ValType::I32; count as usize]?;
     let answer = types.declare_exn(params.as_slice());
-    declared(answer.map(|ty| ty.index()))
+    unless_refused(answer.map(|ty| ty.index()))
 }
 
 fn declare_wide_func(
     alloc: Global,
     types: &mut Types,
-    params: &str,
-    results: &str,
+    params: u32,
+    results: u32,
 ) -> Result<Option<VMSharedTypeIndex>, CaseFault> {
-    let params = vec![in alloc; ValType::I32; params.parse::<usize>()?]?;
-    let results = vec![in alloc; ValType::I32; results.parse::<usize>()?]?;
+    let params = vec![in alloc; ValType::I32; params as usize]?;
+    let results = vec![in alloc; ValType::I32; results as usize]?;
     let answer = types.declare_func(params.as_slice(), results.as_slice(), None, false);
-    declared(answer.map(|ty| ty.index()))
+    unless_refused(answer.map(|ty| ty.index()))
 }
 
 /// How many pairs there are of one of the first `subs` types and one of the first `sups` that it is a

@@ -1,9 +1,8 @@
 //! Reads the words of a case.
 
 use crate::fault::CaseFault;
-use gc_types::{
-    FieldType, HeapType, Mutability, RefType, StorageType, VMGcKind, VMSharedTypeIndex, ValType,
-};
+use crate::row::named;
+use gc_types::{FieldType, HeapType, Mutability, RefType, StorageType, VMSharedTypeIndex, ValType};
 use std::alloc::Global;
 
 /// The index that a word is.
@@ -29,24 +28,29 @@ pub(crate) fn finality_of(word: &str) -> Result<bool, CaseFault> {
     }
 }
 
+/// The heap types that have a name.
+const HEAP_TYPES: [(&str, HeapType); 14] = [
+    ("any", HeapType::Any),
+    ("eq", HeapType::Eq),
+    ("i31", HeapType::I31),
+    ("struct", HeapType::Struct),
+    ("array", HeapType::Array),
+    ("none", HeapType::None),
+    ("extern", HeapType::Extern),
+    ("noextern", HeapType::NoExtern),
+    ("func", HeapType::Func),
+    ("nofunc", HeapType::NoFunc),
+    ("exn", HeapType::Exn),
+    ("noexn", HeapType::NoExn),
+    ("cont", HeapType::Cont),
+    ("nocont", HeapType::NoCont),
+];
+
 /// The heap type that a word is.
 pub(crate) fn heap_type_of(word: &str) -> Result<HeapType, CaseFault> {
-    match word {
-        "any" => Ok(HeapType::Any),
-        "eq" => Ok(HeapType::Eq),
-        "i31" => Ok(HeapType::I31),
-        "struct" => Ok(HeapType::Struct),
-        "array" => Ok(HeapType::Array),
-        "none" => Ok(HeapType::None),
-        "extern" => Ok(HeapType::Extern),
-        "noextern" => Ok(HeapType::NoExtern),
-        "func" => Ok(HeapType::Func),
-        "nofunc" => Ok(HeapType::NoFunc),
-        "exn" => Ok(HeapType::Exn),
-        "noexn" => Ok(HeapType::NoExn),
-        "cont" => Ok(HeapType::Cont),
-        "nocont" => Ok(HeapType::NoCont),
-        _ => concrete_of(word),
+    match named(&HEAP_TYPES, word) {
+        Some(ty) => Ok(ty),
+        None => concrete_of(word),
     }
 }
 
@@ -117,19 +121,6 @@ pub(crate) fn maybe_field_of(word: &str) -> Result<Option<FieldType>, CaseFault>
     match word {
         "none" => Ok(None),
         _ => Ok(Some(field_of(word)?)),
-    }
-}
-
-/// The kind of objects that a word names.
-pub(crate) fn kind_of(word: &str) -> Result<VMGcKind, CaseFault> {
-    match word {
-        "extern" => Ok(VMGcKind::ExternRef),
-        "any" => Ok(VMGcKind::AnyRef),
-        "eq" => Ok(VMGcKind::EqRef),
-        "struct" => Ok(VMGcKind::StructRef),
-        "array" => Ok(VMGcKind::ArrayRef),
-        "exn" => Ok(VMGcKind::ExnRef),
-        _ => Err(CaseFault::BadCase),
     }
 }
 

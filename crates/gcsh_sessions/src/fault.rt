@@ -18,6 +18,8 @@ pub(crate) enum TableFault {
     BadHeader,
     #[error("a header has no such option")]
     NoOption,
+    #[error("an example has no script, output and words")]
+    NoExample,
     #[error("there is no such configuration")]
     NoConfiguration,
     #[error("there is no such collector")]
@@ -67,6 +69,8 @@ pub(crate) type Result<T, E = SessionFault> = std::result::Result<T, E>;
 /// Why the program stops.
 #[derive(Debug, Drop, Error)]
 pub(crate) enum RunFault {
+    #[error("the argument that names the folder is missing")]
+    NoFolder,
     #[error("session {header:?}: {fault}")]
     Session { header: String, fault: SessionFault },
     #[error(transparent)]

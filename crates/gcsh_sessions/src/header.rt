@@ -12,6 +12,8 @@ pub(crate) enum Kind {
     Traced,
     /// Commands on a store with limits of its own.
     Store,
+    /// The top call on an example.
+    Example,
 }
 
 impl Kind {
@@ -21,6 +23,7 @@ impl Kind {
             Kind::Program => "reads writes room unended folded",
             Kind::Traced => "gives takes reads writes flushes from unended",
             Kind::Store => "most answers counter function continuation dropped",
+            Kind::Example => "",
         }
     }
 
@@ -97,6 +100,9 @@ pub(crate) fn kind_of(line: &str) -> Option<(Kind, &str)> {
     }
     if let Some(rest) = line.strip_prefix('~') {
         return Some((Kind::Traced, rest));
+    }
+    if let Some(rest) = line.strip_prefix('=') {
+        return Some((Kind::Example, rest));
     }
     match line.strip_prefix('!') {
         Some(rest) => Some((Kind::Store, rest)),

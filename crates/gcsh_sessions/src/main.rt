@@ -26,10 +26,15 @@
 //!   collection of it was dropped after N increments. Lines `---` cut the script into several, which the store runs one after the
 //!   other, each as a whole and with unset registers.
 //!
+//! - `= SCRIPT OUTPUT WORDS` runs the top call with these words on an example, whose script and output are files of the folder that the one
+//!   argument names. Printed are the header and `ok`, or the first line of the output that differs, or the status where it isn't 0.
+//!   It has no options, and needs no lines behind it.
+//!
 //! What the table must give, in `stdout`, was worked out by hand from the rules in docs/.
 #![tactic(auto)]
 
 mod ends;
+mod example;
 mod expand;
 mod fault;
 mod header;
@@ -39,73 +44,111 @@ mod stores;
 mod table;
 mod traced;
 
+use example::push_example;
 use expand::expand_lines;
-use fault::{Result, RunFault};
+use fault::{Result, RunFault, SessionFault};
 use header::{Header, Kind};
-use runs::run_program;
+use runs::push_program;
 use std::alloc::Global;
-use std::io;
 use std::io::{BufWriter, Write};
-use stores::run_store;
+use std::{env, io};
+use stores::push_store;
 use table::{Sessions, read_table};
-use traced::run_traced;
+use traced::push_traced;
 
-/// Runs the script of a header, and writes what it gives.
-fn run_script<W: Write + Drop>(
-    alloc: Global,
-    header: &Header<'_>,
-    script: &str,
-    out: &mut W,
-) -> Result<()> {
+/// Puts what a header gives that runs a script behind a text.
+fn push_scripted(alloc: Global, header: &Header<'_>, script: &str, out: &mut String) -> Result<()> {
     match header.kind {
-        Kind::Program => run_program(alloc, header, script, out),
-        Kind::Traced => run_traced(alloc, header, script, out),
-        Kind::Store => run_store(alloc, header, script, out),
+        Kind::Program => push_program(alloc, header, script, out),
+        Kind::Traced => push_traced(alloc, header, script, out),
+        Kind::Store => push_store(alloc, header, script, out),
+        Kind::Example => Ok(()),
     }
 }
 
-/// Runs the session of a header, and writes what it gives.
-fn run_session<W: Write + Drop>(
-    alloc: Global,
-    line: &str,
-    lines: &[&str],
-    out: &mut W,
-) -> Result<()> {
-    writeln!(out, "{line}")?;
-    let header = Header::parse(alloc, line)?;
+/// Puts what a header and the lines behind it give behind a text.
+fn push_lines(alloc: Global, header: &Header<'_>, lines: &[&str], out: &mut String) -> Result<()> {
     let is_ended = header.value("unended").is_none();
     let script = expand_lines(alloc, lines, is_ended)?;
-    run_script(alloc, &header, script.as_str(), out)
+    push_scripted(alloc, header, script.as_str(), out)
+}
+
+/// What the session of a header gives.
+fn push_session(
+    rt: &HostRuntime,
+    folder: &str,
+    line: &str,
+    lines: &[&str],
+    out: &mut String,
+) -> Result<()> {
+    writeln!(out, "{line}")?;
+    let header = Header::parse(rt.alloc(), line)?;
+    match header.kind {
+        Kind::Example => push_example(rt, folder, header.words, out),
+        _ => push_lines(rt.alloc(), &header, lines, out),
+    }
+}
+
+/// The session that stops, and why.
+fn stopped(alloc: Global, header: &str, fault: SessionFault) -> RunFault {
+    match String::from_str(alloc, header) {
+        Ok(header) => RunFault::Session { header, fault },
+        Err(full) => RunFault::Memory(full),
+    }
+}
+
+/// What the session of a header gives.
+fn session_text(
+    rt: &HostRuntime,
+    folder: &str,
+    line: &str,
+    lines: &[&str],
+) -> Result<String, RunFault> {
+    let mut text = String::new(rt.alloc());
+    match push_session(rt, folder, line, lines, &mut text) {
+        Ok(()) => Ok(text),
+        Err(fault) => Err(stopped(rt.alloc(), line, fault)),
+    }
 }
 
 /// Runs the sessions of a script.
 fn run_sessions<W: Write + Drop>(
-    alloc: Global,
+    rt: &HostRuntime,
+    folder: &str,
     sessions: &Sessions<'_>,
     out: &mut W,
 ) -> Result<(), RunFault> {
     for header in sessions.headers.iter() {
-        if let Err(fault) = run_session(alloc, header, sessions.lines.as_slice(), out) {
-            let header = String::from_str(alloc, header)?;
-            return Err(RunFault::Session { header, fault });
-        }
+        let text = session_text(rt, folder, header, sessions.lines.as_slice())?;
+        out.write_all(text.as_bytes())?;
     }
     Ok(())
 }
 
 /// Runs the sessions of a table.
-fn run_table<W: Write + Drop>(alloc: Global, text: &str, out: &mut W) -> Result<(), RunFault> {
-    for sessions in read_table(alloc, text)?.iter() {
-        run_sessions(alloc, sessions, out)?;
+fn run_table<W: Write + Drop>(
+    rt: &HostRuntime,
+    folder: &str,
+    table: &[Sessions<'_>],
+    out: &mut W,
+) -> Result<(), RunFault> {
+    for sessions in table.iter() {
+        run_sessions(rt, folder, sessions, out)?;
     }
+    out.flush()?;
     Ok(())
 }
 
-fn main(rt: HostRuntime) -> Result<(), RunFault> {
+/// Runs the sessions of a text.
+fn run_text(rt: &HostRuntime, folder: &str, text: &str) -> Result<(), RunFault> {
     let alloc = rt.alloc();
-    let text = io::read_to_string(alloc, rt.reader())?;
-    let mut out = BufWriter::new(alloc, io::writer(&rt))?;
-    run_table(alloc, text.as_str(), &mut out)?;
-    out.flush()?;
-    Ok(())
+    let table = read_table(alloc, text)?;
+    let mut out = BufWriter::new(alloc, io::writer(rt))?;
+    run_table(rt, folder, table.as_slice(), &mut out)
+}
+
+fn main(rt: HostRuntime) -> Result<(), RunFault> {
+    let folder = env::args(&rt)?.skip(1).next().ok_or(RunFault::NoFolder)?;
+    let text = io::read_to_string(rt.alloc(), rt.reader())?;
+    run_text(&rt, folder.as_str(), text.as_str())
 }

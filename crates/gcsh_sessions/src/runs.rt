@@ -4,11 +4,9 @@ use crate::fault::Result;
 use crate::header::{Header, words_of};
 use gcsh_top::{MemSink, MemSource, Sink, Source, Stores, gcsh_top};
 use std::alloc::{AllocError, Global};
-use std::io;
-use std::io::Write;
 
 /// The room of a sink for which the header says none, in bytes.
-const USUAL_ROOM: u32 = 1 << 16;
+pub(crate) const USUAL_ROOM: u32 = 1 << 16;
 
 /// Runs the top call with these words on new stores, and answers its status.
 pub(crate) fn run_top<S: Source, K: Sink>(
@@ -37,40 +35,41 @@ fn sink_of(alloc: Global, header: &Header<'_>) -> Result<MemSink> {
 }
 
 /// Runs the top call on a script, and writes what its sink took and its status.
-pub(crate) fn run_program<W: Write + Drop>(
+pub(crate) fn push_program(
     alloc: Global,
     header: &Header<'_>,
     script: &str,
-    out: &mut W,
+    out: &mut String,
 ) -> Result<()> {
     let mut source = source_of(alloc, header, script)?;
     let mut sink = sink_of(alloc, header)?;
     let status = run_top(alloc, header.words, &mut source, &mut sink)?;
     let is_folded = header.value("folded").is_some();
-    write_output(sink.bytes(), is_folded, status, out)
+    push_output(sink.bytes(), is_folded, status, out)
 }
 
 /// Writes what a sink took, and a status.
-fn write_output<W: Write + Drop>(
-    bytes: &[u8],
-    is_folded: bool,
-    status: u8,
-    out: &mut W,
-) -> Result<()> {
+fn push_output(bytes: &[u8], is_folded: bool, status: u8, out: &mut String) -> Result<()> {
+    let text = str::from_utf8(bytes)?;
     if is_folded {
-        write_folded(str::from_utf8(bytes)?, out)?;
+        push_folded(text, out)?;
     } else {
-        out.write_all(bytes)?;
+        out.push_str(text)?;
     }
-    match bytes.last() {
-        None | Some(b'\n') => writeln!(out, "status {status}")?,
-        Some(_) => writeln!(out, "\nstatus {status} within a line")?,
+    Ok(push_status(text, status, out)?)
+}
+
+/// Writes a status behind a text, and whether the text ends within a line.
+fn push_status(text: &str, status: u8, out: &mut String) -> Result<(), AllocError> {
+    if text.is_empty() || text.ends_with('\n') {
+        writeln!(out, "status {status}")
+    } else {
+        writeln!(out, "\nstatus {status} within a line")
     }
-    Ok(())
 }
 
 /// Writes the lines of a text, those that stand several times in a row once, as `{N*LINE}`.
-fn write_folded<W: Write + Drop>(text: &str, out: &mut W) -> io::Result<()> {
+fn push_folded(text: &str, out: &mut String) -> Result<(), AllocError> {
     let mut lines = text.lines();
     let Some(mut last) = lines.next() else {
         return Ok(());
@@ -81,15 +80,15 @@ fn write_folded<W: Write + Drop>(text: &str, out: &mut W) -> io::Result<()> {
             times = times.saturating_add(1);
             continue;
         }
-        write_times(last, times, out)?;
+        push_times(last, times, out)?;
         last = line;
         times = 1;
     }
-    write_times(last, times, out)
+    push_times(last, times, out)
 }
 
 /// Writes a line that stands so many times in a row.
-fn write_times<W: Write + Drop>(line: &str, times: u32, out: &mut W) -> io::Result<()> {
+fn push_times(line: &str, times: u32, out: &mut String) -> Result<(), AllocError> {
     if times == 1 {
         writeln!(out, "{line}")
     } else {

@@ -1,5 +1,8 @@
 //! Runs scripts on stores, and writes what they give.
 
+ghost use Rattle.std.specs.Prelude.{◌≡◌};
+ghost use Rattle.gc_view.specs.Heaps.{detached};
+
 use crate::fault::{Result, SessionFault, TableFault};
 use crate::header::Header;
 use crate::opaque::{Opaque, hold_opaque};
@@ -10,7 +13,6 @@ use gc_script::{Command, Reply, Runner, parse_line, reply_text, run_script};
 use gc_store::{HeapConfig, PageLimit, ResourceLimiter, Scripted, Store, StoreId};
 use gcsh_top::Collector;
 use std::alloc::{AllocError, Global};
-use std::io::Write;
 use std::num::NonZeroU32;
 
 /// The line that stands between two scripts of one store.
@@ -91,60 +93,88 @@ fn answer_of(word: &str) -> Result<bool> {
 }
 
 /// Runs a script on a new store, and writes its replies and what the limiter refused.
-pub(crate) fn run_store<W: Write + Drop>(
+pub(crate) fn push_store(
     alloc: Global,
     header: &Header<'_>,
     script: &str,
-    out: &mut W,
+    out: &mut String,
 ) -> Result<()> {
     let new = NewStore::of(header)?;
-    if let Some(most) = header.number("most")? {
-        let mut limiter = PageLimit::new(most);
-        run_heap(alloc, &new, &mut limiter, script, out)?;
-        return write_refused(limiter.refusals(), limiter.last_refused(), out);
+    match header.number("most")? {
+        Some(most) => push_limited(alloc, &new, most, script, out),
+        None => push_answered(alloc, &new, header, script, out),
     }
+}
+
+/// Runs a script on a new store whose limiter grants so many pages at most.
+fn push_limited(
+    alloc: Global,
+    new: &NewStore,
+    most: u32,
+    script: &str,
+    out: &mut String,
+) -> Result<()> {
+    let mut limiter = PageLimit::new(most);
+    run_heap(alloc, new, &mut limiter, script, out)?;
+    Ok(push_refused(limiter.refusals(), limiter.last_refused(), out)?)
+}
+
+/// Runs a script on a new store whose limiter answers as a header says.
+fn push_answered(
+    alloc: Global,
+    new: &NewStore,
+    header: &Header<'_>,
+    script: &str,
+    out: &mut String,
+) -> Result<()> {
     let answers = answers_of(alloc, header.value("answers").unwrap_or(""))?;
     let mut limiter = Scripted::new(answers);
-    run_heap(alloc, &new, &mut limiter, script, out)?;
-    write_refused(limiter.refusals(), limiter.last_refused(), out)
+    run_heap(alloc, new, &mut limiter, script, out)?;
+    Ok(push_refused(limiter.refusals(), limiter.last_refused(), out)?)
 }
 
 /// Writes what a limiter refused.
-fn write_refused<W: Write + Drop>(
+fn push_refused(
     refusals: u64,
     last: Option<(u32, u32)>,
-    out: &mut W,
-) -> Result<()> {
+    out: &mut String,
+) -> Result<(), AllocError> {
     writeln!(out, "refusals {refusals}")?;
     match last {
-        Some((from, to)) => writeln!(out, "last {from} {to}")?,
-        None => writeln!(out, "last none")?,
+        Some((from, to)) => writeln!(out, "last {from} {to}"),
+        None => out.push_str("last none\n"),
     }
-    Ok(())
 }
 
 /// Runs a script on a new store over a heap of the collector's.
-fn run_heap<L: ResourceLimiter, W: Write + Drop>(
+fn run_heap<L: ResourceLimiter>(
     alloc: Global,
     new: &NewStore,
     limiter: &mut L,
     script: &str,
-    out: &mut W,
+    out: &mut String,
 ) -> Result<()> {
     match new.collector {
-        Collector::Copying => {
-            let mut store = Store::new(alloc, STORE, CopyingHeap::new(alloc), new.config)?;
-            run_prepared(alloc, &mut store, new, limiter, script, out)
-        }
-        Collector::Counting => {
-            let mut store = Store::new(alloc, STORE, DrcHeap::new(alloc), new.config)?;
-            run_prepared(alloc, &mut store, new, limiter, script, out)
-        }
-        Collector::Null => {
-            let mut store = Store::new(alloc, STORE, NullHeap::new(alloc), new.config)?;
-            run_prepared(alloc, &mut store, new, limiter, script, out)
-        }
+        Collector::Copying => run_over(CopyingHeap::new(alloc), alloc, new, limiter, script, out),
+        Collector::Counting => run_over(DrcHeap::new(alloc), alloc, new, limiter, script, out),
+        Collector::Null => run_over(NullHeap::new(alloc), alloc, new, limiter, script, out),
     }
+}
+
+/// Runs a script on a new store over that heap.
+fn run_over<H: GcHeap + Drop, L: ResourceLimiter>(
+    heap: H,
+    alloc: Global,
+    new: &NewStore,
+    limiter: &mut L,
+    script: &str,
+    out: &mut String,
+) -> Result<()>
+    requires sound { H.sound heap }
+    requires empty { H.seen heap ≡ detached }
+{
+    let mut store = Store::new(alloc, STORE, heap, new.config)?;
+    run_prepared(alloc, &mut store, new, limiter, script, out)
 }
 
 /// Lets the heap grow by a byte, starts a collection, and drops it after so many increments.
@@ -162,13 +192,13 @@ fn drop_collection<H: GcHeap + Drop, L: ResourceLimiter>(
 }
 
 /// Runs a script on a store, which holds a function or a continuation, or has dropped a collection, where that is asked for.
-fn run_prepared<H: GcHeap + Drop, L: ResourceLimiter, W: Write + Drop>(
+fn run_prepared<H: GcHeap + Drop, L: ResourceLimiter>(
     alloc: Global,
     store: &mut Store<H, u64>,
     new: &NewStore,
     limiter: &mut L,
     script: &str,
-    out: &mut W,
+    out: &mut String,
 ) -> Result<()> {
     if let Some(held) = new.held {
         hold_opaque(store, limiter, held)?;
@@ -180,36 +210,48 @@ fn run_prepared<H: GcHeap + Drop, L: ResourceLimiter, W: Write + Drop>(
 }
 
 /// Runs a script command by command, or the scripts that it is cut into, each as a whole.
-fn run_parts<H: GcHeap, L: ResourceLimiter, W: Write + Drop>(
+fn run_parts<H: GcHeap, L: ResourceLimiter>(
     alloc: Global,
     store: &mut Store<H, u64>,
     limiter: &mut L,
     script: &str,
-    out: &mut W,
+    out: &mut String,
 ) -> Result<()> {
     let Some((first, rest)) = script.split_once(CUT) else {
         return run_commands(alloc, store, limiter, script, out);
     };
     run_whole(alloc, store, limiter, first, out)?;
     for part in rest.split(CUT) {
-        out.write_all(CUT.as_bytes())?;
+        out.push_str(CUT)?;
         run_whole(alloc, store, limiter, part, out)?;
     }
     Ok(())
 }
 
 /// Runs the commands of a script one by one.
-fn run_commands<H: GcHeap, L: ResourceLimiter, W: Write + Drop>(
+fn run_commands<H: GcHeap, L: ResourceLimiter>(
     alloc: Global,
     store: &mut Store<H, u64>,
     limiter: &mut L,
     script: &str,
-    out: &mut W,
+    out: &mut String,
 ) -> Result<()> {
     let mut runner = Runner::new(alloc);
+    run_lines(alloc, &mut runner, store, limiter, script, out)
+}
+
+/// Runs the commands of a script one by one by a runner.
+fn run_lines<H: GcHeap, L: ResourceLimiter>(
+    alloc: Global,
+    runner: &mut Runner,
+    store: &mut Store<H, u64>,
+    limiter: &mut L,
+    script: &str,
+    out: &mut String,
+) -> Result<()> {
     for line in script.lines() {
-        let reply = run_line(alloc, &mut runner, store, limiter, line)?;
-        write_reply(alloc, &reply, out)?;
+        let reply = run_line(alloc, runner, store, limiter, line)?;
+        push_reply(alloc, &reply, out)?;
     }
     Ok(())
 }
@@ -227,16 +269,16 @@ fn run_line<H: GcHeap, L: ResourceLimiter>(
 }
 
 /// Runs a script as a whole.
-fn run_whole<H: GcHeap, L: ResourceLimiter, W: Write + Drop>(
+fn run_whole<H: GcHeap, L: ResourceLimiter>(
     alloc: Global,
     store: &mut Store<H, u64>,
     limiter: &mut L,
     script: &str,
-    out: &mut W,
+    out: &mut String,
 ) -> Result<()> {
     let commands = commands_of(alloc, script)?;
     let replies = run_script(alloc, store, limiter, commands.as_slice())?;
-    write_replies(alloc, replies.as_slice(), out)
+    Ok(push_replies(alloc, replies.as_slice(), out)?)
 }
 
 /// The commands of a script.
@@ -248,15 +290,15 @@ fn commands_of(alloc: Global, script: &str) -> Result<Vec<Command>, AllocError> 
 }
 
 /// Writes replies, each on a line of its own.
-fn write_replies<W: Write + Drop>(alloc: Global, replies: &[Reply], out: &mut W) -> Result<()> {
+fn push_replies(alloc: Global, replies: &[Reply], out: &mut String) -> Result<(), AllocError> {
     for reply in replies.iter() {
-        write_reply(alloc, reply, out)?;
+        push_reply(alloc, reply, out)?;
     }
     Ok(())
 }
 
 /// Writes a reply on a line of its own.
-fn write_reply<W: Write + Drop>(alloc: Global, reply: &Reply, out: &mut W) -> Result<()> {
-    writeln!(out, "{}", reply_text(alloc, reply)?)?;
-    Ok(())
+fn push_reply(alloc: Global, reply: &Reply, out: &mut String) -> Result<(), AllocError> {
+    let text = reply_text(alloc, reply)?;
+    writeln!(out, "{text}")
 }

@@ -5,10 +5,8 @@ use crate::fault::Result;
 use crate::header::Header;
 use crate::runs::run_top;
 use gcsh_top::{StdSink, StdSource};
-use std::alloc::Global;
+use std::alloc::{AllocError, Global};
 use std::cell::RefCell;
-use std::io;
-use std::io::Write;
 
 /// By what parts a reader and a writer give and take, where the header says so.
 #[derive(Clone, Copy)]
@@ -50,22 +48,35 @@ impl Failing {
 }
 
 /// Runs the top call on a script, and writes the calls of its ends and its status.
-pub(crate) fn run_traced<W: Write + Drop>(
+pub(crate) fn push_traced(
     alloc: Global,
     header: &Header<'_>,
     script: &str,
-    out: &mut W,
+    out: &mut String,
 ) -> Result<()> {
     let parts = Parts::of(header)?;
     let failing = Failing::of(alloc, header)?;
     let log = RefCell::new(String::new(alloc));
+    let status = run_logged(alloc, header.words, script, parts, &failing, &log)?;
+    Ok(push_calls(&log, status, out)?)
+}
+
+/// Runs the top call on a script over ends that log their calls, and answers its status.
+fn run_logged(
+    alloc: Global,
+    words: &str,
+    script: &str,
+    parts: Parts,
+    failing: &Failing,
+    log: &Log,
+) -> Result<u8, AllocError> {
     let reader = Reader {
         left: script.as_bytes(),
         gives: parts.gives as usize,
         failing: failing.reads.as_slice(),
         calls: 0,
         first_told: u64::from(parts.first_told),
-        log: &log,
+        log,
     };
     let writer = Writer {
         takes: parts.takes as usize,
@@ -73,24 +84,27 @@ pub(crate) fn run_traced<W: Write + Drop>(
         failing_flushes: failing.flushes.as_slice(),
         writes: 0,
         flushes: 0,
-        log: &log,
+        log,
     };
-    let status = run_ends(alloc, header.words, reader, writer)?;
-    write_calls(&log, status, out)?;
-    Ok(())
+    run_ends(alloc, words, reader, writer)
 }
 
 /// Runs the top call over these ends, and answers its status.
-fn run_ends(alloc: Global, words: &str, reader: Reader<'_>, writer: Writer<'_>) -> Result<u8> {
+fn run_ends(
+    alloc: Global,
+    words: &str,
+    reader: Reader<'_>,
+    writer: Writer<'_>,
+) -> Result<u8, AllocError> {
     let mut source = StdSource::new(reader);
     let mut sink = StdSink::new(writer);
-    Ok(run_top(alloc, words, &mut source, &mut sink)?)
+    run_top(alloc, words, &mut source, &mut sink)
 }
 
 /// Writes what a log has, and a status.
-fn write_calls<W: Write + Drop>(log: &Log, status: u8, out: &mut W) -> io::Result<()> {
+fn push_calls(log: &Log, status: u8, out: &mut String) -> Result<(), AllocError> {
     if let Ok(calls) = log.try_borrow() {
-        out.write_all(calls.as_bytes())?;
+        out.push_str(calls.as_str())?;
     }
     writeln!(out, "status {status}")
 }

@@ -27,7 +27,16 @@ impl Model for MemSource {
 
     ghost Value = { SourceState };
 
-    ghost view = { λ s. record { left = drop s.at s.bytes.items; failing = s.failing.items; calls = s.calls; counts = record { faults = s.faults; given = s.given; ended = s.ended } } };
+    ghost view = { λ s. record {
+      left = drop s.at s.bytes.items;
+      failing = s.failing.items;
+      calls = s.calls;
+      counts = record {
+        faults = s.faults;
+        given = s.given;
+        ended = s.ended;
+      };
+    } };
 
     ghost invariant = { λ s. s.at ≤ vec_len s.bytes };
 }
@@ -100,7 +109,13 @@ impl Model for MemSink {
 
     ghost Value = { SinkState };
 
-    ghost view = { λ s. record { held = s.bytes.items; room = s.room; failing = s.failing.items; calls = s.calls; counts = record { faults = s.faults; flushed = s.flushed } } };
+    ghost view = { λ s. record {
+      held = s.bytes.items;
+      room = s.room;
+      failing = s.failing.items;
+      calls = s.calls;
+      counts = record { faults = s.faults; flushed = s.flushed };
+    } };
 
     ghost invariant = { λ s. (vec_len s.bytes ≤ s.room) × (s.room ≤ vec_capacity s.bytes) };
 }

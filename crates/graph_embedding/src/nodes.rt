@@ -11,8 +11,8 @@ ghost use Rattle.graph_embedding.specs.Entries.{key_in, IsGraphNode, HoldsEntry,
 use crate::fault::{GraphFault, not_made};
 use gc_heap::GcHeap;
 use gc_objects::{AnyRef, StructRef, StructRefPre, Val};
-use gc_store::laws::stores_hold_tables;
 use gc_rooted::{OwnedRooted, Rooted, RootedGcRef};
+use gc_store::laws::stores_hold_tables;
 use gc_store::{PageLimit, Store};
 use gc_types::{FieldType, HeapType, Mutability, RefType, StorageType, VMSharedTypeIndex, ValType};
 

@@ -19,7 +19,6 @@ use gc_roots::{GcRootsList, RootPlace};
 use gc_tables::ExternRefHostDataTable;
 use gc_types::{GcStructLayout, Layouts, Types, VMSharedTypeIndex};
 use std::alloc::Global;
-use std::io::Write;
 
 /// The lowest byte of the count word of an object, and the heap's own three bits.
 type OwnWords = Option<(u8, u8)>;
@@ -94,13 +93,17 @@ fn collects_a_shown_one<H: GcHeap>(
     Ok((queued, shown, heap.object_count(), heap.allocated_bytes()))
 }
 
-/// Writes what these collections did. The words are the lowest byte of the count word and the heap's own bits.
-pub(crate) fn show_shown<W: Write + Drop>(alloc: Global, out: &mut W) -> Result<(), KindFault> {
+/// What these collections did in a new heap.
+fn shown_in_new(alloc: Global) -> Result<(OwnWords, OwnWords, u64, usize), KindFault> {
     let mut heap = DrcHeap::new(alloc);
-    let (queued, shown, objects, bytes) = collects_a_shown_one(&mut heap, alloc)?;
-    writeln!(
+    collects_a_shown_one(&mut heap, alloc)
+}
+
+/// Writes what these collections did. The words are the lowest byte of the count word and the heap's own bits.
+pub(crate) fn show_shown(alloc: Global, out: &mut String) -> Result<(), KindFault> {
+    let (queued, shown, objects, bytes) = shown_in_new(alloc)?;
+    Ok(writeln!(
         out,
         "queued and shown: {queued:?}, then {shown:?}, {objects} objects, {bytes} bytes"
-    )?;
-    Ok(())
+    )?)
 }

@@ -20,11 +20,9 @@ use crate::unheld::show_unheld;
 use crate::untyped::show_untyped;
 use crate::zeroed::show_zeroed;
 use std::alloc::Global;
-use std::io;
-use std::io::{BufWriter, Write};
 
-/// Prints the cases.
-fn show_all<W: Write + Drop>(alloc: Global, out: &mut W) -> Result<(), KindFault> {
+/// Writes the cases.
+fn show_all(alloc: Global, out: &mut String) -> Result<(), KindFault> {
     show_numbers(alloc, out)?;
     show_zeroed(alloc, out)?;
     show_untyped(alloc, 9, out)?;
@@ -33,10 +31,15 @@ fn show_all<W: Write + Drop>(alloc: Global, out: &mut W) -> Result<(), KindFault
     show_unheld(alloc, out)
 }
 
-fn main(rt: HostRuntime) -> Result<(), KindFault> {
-    let alloc = rt.alloc();
-    let mut out = BufWriter::new(alloc, io::writer(&rt))?;
+/// What must be printed.
+fn answers(alloc: Global) -> Result<String, KindFault> {
+    let mut out = String::new(alloc);
     show_all(alloc, &mut out)?;
-    out.flush()?;
+    Ok(out)
+}
+
+fn main(rt: HostRuntime) -> Result<(), KindFault> {
+    let shown = answers(rt.alloc())?;
+    print!(rt; "{shown}")?;
     Ok(())
 }

@@ -12,8 +12,7 @@ use gc_heap::{GcHeap, GcStoreTraceState, HeapMemory, NullHeap};
 use gc_roots::GcRootsList;
 use gc_tables::ExternRefHostDataTable;
 use gc_types::{FieldType, Layouts, Mutability, StorageType, Types, ValType};
-use std::alloc::Global;
-use std::io::Write;
+use std::alloc::{AllocError, Global};
 
 /// A field that holds a number of 32 bits.
 const NUMBER: FieldType = FieldType {
@@ -162,8 +161,16 @@ fn keep_in_copying<H: GcHeap>(
     }
 }
 
+/// The number that a heap kept, and how many objects and bytes it has then.
+#[derive(Clone, Copy)]
+struct Kept {
+    number: u32,
+    objects: u64,
+    bytes: usize,
+}
+
 /// Writes the number that a heap of each kind kept, and what it has then.
-pub(crate) fn show_numbers<W: Write + Drop>(alloc: Global, out: &mut W) -> Result<(), KindFault> {
+pub(crate) fn show_numbers(alloc: Global, out: &mut String) -> Result<(), KindFault> {
     show_null(alloc, out)?;
     show_counting(alloc, out)?;
     show_copying(alloc, out)
@@ -182,16 +189,19 @@ fn number_in_null<H: GcHeap>(heap: &mut H, alloc: Global) -> Result<u32, KindFau
     keep_in_null(heap, alloc, &mut types, &mut roots, &mut hosts)
 }
 
-fn show_null<W: Write + Drop>(alloc: Global, out: &mut W) -> Result<(), KindFault> {
+/// What a new null heap kept.
+fn kept_in_null(alloc: Global) -> Result<Kept, KindFault> {
     let mut heap = NullHeap::new(alloc);
-    let kept = number_in_null(&mut heap, alloc)?;
-    show_number(
-        "null",
-        kept,
-        heap.object_count(),
-        heap.allocated_bytes(),
-        out,
-    )
+    let number = number_in_null(&mut heap, alloc)?;
+    Ok(Kept {
+        number,
+        objects: heap.object_count(),
+        bytes: heap.allocated_bytes(),
+    })
+}
+
+fn show_null(alloc: Global, out: &mut String) -> Result<(), KindFault> {
+    Ok(show_number("null", kept_in_null(alloc)?, out)?)
 }
 
 /// The number that a new counting heap kept.
@@ -207,16 +217,19 @@ fn number_in_counting<H: GcHeap>(heap: &mut H, alloc: Global) -> Result<u32, Kin
     keep_in_counting(heap, alloc, &mut types, &mut roots, &mut hosts)
 }
 
-fn show_counting<W: Write + Drop>(alloc: Global, out: &mut W) -> Result<(), KindFault> {
+/// What a new counting heap kept.
+fn kept_in_counting(alloc: Global) -> Result<Kept, KindFault> {
     let mut heap = DrcHeap::new(alloc);
-    let kept = number_in_counting(&mut heap, alloc)?;
-    show_number(
-        "counting",
-        kept,
-        heap.object_count(),
-        heap.allocated_bytes(),
-        out,
-    )
+    let number = number_in_counting(&mut heap, alloc)?;
+    Ok(Kept {
+        number,
+        objects: heap.object_count(),
+        bytes: heap.allocated_bytes(),
+    })
+}
+
+fn show_counting(alloc: Global, out: &mut String) -> Result<(), KindFault> {
+    Ok(show_number("counting", kept_in_counting(alloc)?, out)?)
 }
 
 /// The number that a new copying heap kept.
@@ -232,29 +245,30 @@ fn number_in_copying<H: GcHeap>(heap: &mut H, alloc: Global) -> Result<u32, Kind
     keep_in_copying(heap, alloc, &mut types, &mut roots, &mut hosts)
 }
 
-fn show_copying<W: Write + Drop>(alloc: Global, out: &mut W) -> Result<(), KindFault> {
+/// What a new copying heap kept.
+fn kept_in_copying(alloc: Global) -> Result<Kept, KindFault> {
     let mut heap = CopyingHeap::new(alloc);
-    let kept = number_in_copying(&mut heap, alloc)?;
-    show_number(
-        "copying",
-        kept,
-        heap.object_count(),
-        heap.allocated_bytes(),
-        out,
-    )
+    let number = number_in_copying(&mut heap, alloc)?;
+    Ok(Kept {
+        number,
+        objects: heap.object_count(),
+        bytes: heap.allocated_bytes(),
+    })
+}
+
+fn show_copying(alloc: Global, out: &mut String) -> Result<(), KindFault> {
+    Ok(show_number("copying", kept_in_copying(alloc)?, out)?)
 }
 
 /// Writes a number that was kept, and how many objects and bytes there are.
-fn show_number<W: Write + Drop>(
-    kind: &str,
-    kept: u32,
-    objects: u64,
-    bytes: usize,
-    out: &mut W,
-) -> Result<(), KindFault> {
+fn show_number(kind: &str, kept: Kept, out: &mut String) -> Result<(), AllocError> {
+    let Kept {
+        number,
+        objects,
+        bytes,
+    } = kept;
     writeln!(
         out,
-        "kept in a {kind} heap: {kept}, {objects} objects, {bytes} bytes"
-    )?;
-    Ok(())
+        "kept in a {kind} heap: {number}, {objects} objects, {bytes} bytes"
+    )
 }

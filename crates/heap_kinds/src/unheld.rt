@@ -21,7 +21,6 @@ use gc_types::{
     VMSharedTypeIndex, ValType,
 };
 use std::alloc::Global;
-use std::io::Write;
 
 /// Makes a struct whose references are null, and gives its one word up.
 fn drop_struct<H: GcHeap>(
@@ -93,10 +92,14 @@ fn frees_by_counts_first(heap: &mut DrcHeap, alloc: Global) -> Result<(u64, u64)
     }
 }
 
-/// Writes how many objects are left after two increments, and at the end.
-pub(crate) fn show_unheld<W: Write + Drop>(alloc: Global, out: &mut W) -> Result<(), KindFault> {
+/// How many objects are left in a new heap after two increments, and at the end.
+fn freed_in_new(alloc: Global) -> Result<(u64, u64), KindFault> {
     let mut heap = DrcHeap::new(alloc);
-    let (by_counts, at_end) = frees_by_counts_first(&mut heap, alloc)?;
-    writeln!(out, "by counts alone: {by_counts} objects, then {at_end}")?;
-    Ok(())
+    frees_by_counts_first(&mut heap, alloc)
+}
+
+/// Writes how many objects are left after two increments, and at the end.
+pub(crate) fn show_unheld(alloc: Global, out: &mut String) -> Result<(), KindFault> {
+    let (by_counts, at_end) = freed_in_new(alloc)?;
+    Ok(writeln!(out, "by counts alone: {by_counts} objects, then {at_end}")?)
 }

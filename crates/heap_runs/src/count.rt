@@ -7,7 +7,7 @@ use crate::cases::Case;
 use crate::fault::RunFault;
 use crate::named::Named;
 use gc_heap::GcHeap;
-use gc_mutator::Mutator;
+use gc_mutator::{Mutator, MutatorFault};
 use std::alloc::Global;
 use std::fmt;
 
@@ -83,11 +83,20 @@ impl Outcome {
     {
         let (types, named) = Named::declare(alloc)?;
         let mut mutator = Mutator::new(alloc, heap, types, case.pages())?;
-        case.begin(&mut mutator, &named)?;
-        let made = Count::of(&mutator);
-        let first = Collected::by(&mut mutator);
-        case.go_on(&mut mutator)?;
-        let second = Collected::by(&mut mutator);
+        Ok(Outcome::by(&mut mutator, &named, case)?)
+    }
+
+    /// Runs a case on a heap in which nothing is.
+    fn by<H: GcHeap>(
+        mutator: &mut Mutator<H>,
+        named: &Named,
+        case: Case,
+    ) -> Result<Outcome, MutatorFault> {
+        case.begin(mutator, named)?;
+        let made = Count::of(mutator);
+        let first = Collected::by(mutator);
+        case.go_on(mutator)?;
+        let second = Collected::by(mutator);
         Ok(Outcome {
             made,
             first,

@@ -49,6 +49,15 @@ impl Wanted {
     {
         let (types, named) = Named::declare(alloc)?;
         let mut mutator = Mutator::new(alloc, heap, types, 1)?;
+        Wanted::by(&mut mutator, &named, length)
+    }
+
+    /// What is wanted of a heap in which nothing is.
+    fn by<H: GcHeap>(
+        mutator: &mut Mutator<H>,
+        named: &Named,
+        length: u32,
+    ) -> Result<Wanted, RunFault> {
         let longer = bytes_wanted(mutator.make_array(named.bytes, length.saturating_add(1)))?;
         mutator.make_array(named.bytes, length)?;
         let behind = bytes_wanted(mutator.make_struct(named.cell))?;

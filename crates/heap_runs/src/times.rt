@@ -98,17 +98,16 @@ fn times_of<R: Clock>(rt: &R, m: &mut Mutator<DrcHeap>, named: &Named) -> Result
     })
 }
 
-/// A counting heap, and the types of its objects.
-fn new_mutator(alloc: Global) -> Result<(Mutator<DrcHeap>, Named), RunFault> {
+/// Times the calls of a new counting heap.
+fn times_of_new<R: Clock>(rt: &R, alloc: Global) -> Result<Times, RunFault> {
     let (types, named) = Named::declare(alloc)?;
-    let m = Mutator::new(alloc, DrcHeap::new(alloc), types, 64)?;
-    Ok((m, named))
+    let mut m = Mutator::new(alloc, DrcHeap::new(alloc), types, 64)?;
+    times_of(rt, &mut m, &named)
 }
 
 /// Shows the times.
 pub(crate) fn show_times<R: Print + Clock>(rt: &R, alloc: Global) -> Result<(), RunFault> {
-    let (mut m, named) = new_mutator(alloc)?;
-    let times = times_of(rt, &mut m, &named)?;
+    let times = times_of_new(rt, alloc)?;
     println!(rt; "{times:?}")?;
     Ok(())
 }

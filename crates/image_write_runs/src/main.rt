@@ -1,10 +1,17 @@
-//! Writes an image, asks for the commands of two tables of types, and reads objects and globals from standard input, one image a
-//! row, of which it prints the order.
+//! Reads images from standard input, one a row, and prints of each whether it is well, or the order of its objects; writes an
+//! image; and asks for the commands of two tables of types.
 //!
-//! In a row `;` stands for a line feed; rows that begin with `//` say nothing, and are printed as they are. The types of all rows are
-//! those of `types_of`. What must be printed, in `stdout`, was worked out by hand.
+//! In a row `;` stands for a line feed; rows that begin with `//` say nothing, and are printed as they are. What is told stands in front of
+//! each other row. Behind `well ` stands an image, of which it is told whether it is well. Behind `each ` stands
+//! one in which each byte is exchanged in turn for each of the 256: told are, for each place, how many of these make a
+//! well text. An image alone has objects and globals, whose order is told; their types are those of `declare_types`. `types` asks for
+//! commands, and `image` writes an image. What must be printed, in `stdout`, was worked out by hand from the rules in docs/FORMATS.md, and for `each ` by
+//! another program that keeps them.
 #![tactic(auto)]
 
+mod wells;
+
+use crate::wells::{bytes_of, push_counts, push_well};
 use gc_commands::ByteText;
 use gc_image::{
     GlobalLine, Image, ImageReference, ImageValue, ImageValues, ObjectLine, parse_image,
@@ -120,15 +127,6 @@ fn text_of(alloc: Global) -> Result<Vec<u8>, AllocError> {
     write_image(alloc, &Image::new(Vec::new(alloc), objects, globals))
 }
 
-/// The bytes that a row stands for.
-fn bytes_of(alloc: Global, row: &str) -> Result<Vec<u8>, AllocError> {
-    let mut bytes = Vec::with_capacity(alloc, row.len())?;
-    for byte in row.as_bytes() {
-        bytes.push(if *byte == b';' { b'\n' } else { *byte })?;
-    }
-    Ok(bytes)
-}
-
 /// Writes the order of the objects of an image, or why there is none.
 fn push_order_of(
     alloc: Global,
@@ -208,16 +206,27 @@ fn push_image(alloc: Global, line: &mut String) -> Result<(), RowsFault> {
     Ok(())
 }
 
-/// Writes what is told of a row.
-fn push_line(alloc: Global, row: &str, line: &mut String) -> Result<(), RowsFault> {
-    if row.starts_with("//") {
-        return Ok(());
-    }
+/// Writes what a row asks for that has no image, or the order of the objects of its image.
+fn push_asked(alloc: Global, row: &str, line: &mut String) -> Result<(), RowsFault> {
     match row {
         "types" => push_types(alloc, line),
         "image" => push_image(alloc, line),
         _ => push_answer(alloc, row, line),
     }
+}
+
+/// Writes what is told of a row.
+fn push_line(alloc: Global, row: &str, line: &mut String) -> Result<(), RowsFault> {
+    if row.starts_with("//") {
+        return Ok(());
+    }
+    if let Some(image) = row.strip_prefix("well ") {
+        return Ok(push_well(alloc, image, line)?);
+    }
+    if let Some(image) = row.strip_prefix("each ") {
+        return Ok(push_counts(alloc, image, line)?);
+    }
+    push_asked(alloc, row, line)
 }
 
 /// A row behind what is told of it.

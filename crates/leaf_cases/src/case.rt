@@ -2,9 +2,9 @@
 
 use crate::fault::CaseFault;
 use crate::memory::{new_memory, show_offsets, show_stored};
-use crate::row::{ANY, bytes_of, low_words, named};
 use crate::tables::{answer_cont, answer_func, answer_host, show_faults, show_ids, two_types};
-use crate::{headers, memory, roots, slabs, texts, typed, values, views, words};
+use crate::{memory, roots, slabs, texts};
+use case_rows::{Answers, NoCase, low_words, named};
 use gc_memory::HeapMemory;
 use gc_roots::GcRootsList;
 use gc_tables::{ContRefTable, ExternRefHostDataTable, FuncRefTable, Slab};
@@ -15,7 +15,6 @@ use std::alloc::{AllocError, Global};
 #[derive(Drop)]
 pub(crate) struct Cases {
     alloc: Global,
-    bytes: Vec<u8>,
     types: Types,
     hosts: ExternRefHostDataTable<u32>,
     funcs: FuncRefTable,
@@ -29,10 +28,9 @@ pub(crate) struct Cases {
 #[derive(Clone, Copy)]
 enum Subject {
     New,
-    View,
-    Value,
     Held(Held),
-    Alone(Alone),
+    Replies,
+    Values,
     Small(Small),
 }
 
@@ -47,16 +45,6 @@ enum Held {
     Roots,
 }
 
-/// What nothing is held of, and has calls.
-#[derive(Clone, Copy)]
-enum Alone {
-    Words,
-    Refs,
-    Headers,
-    Replies,
-    Values,
-}
-
 /// What nothing is held of, and has one call.
 #[derive(Clone, Copy)]
 enum Small {
@@ -67,45 +55,30 @@ enum Small {
 }
 
 /// The first word of a row, how many stand behind it, and what the row is about.
-const SUBJECTS: [(&str, usize, Subject); 18] = [
+const SUBJECTS: [(&str, usize, Subject); 13] = [
     ("new", 1, Subject::New),
-    ("view", ANY, Subject::View),
-    ("value", 2, Subject::Value),
     ("host", 1, Subject::Held(Held::Hosts)),
     ("func", 1, Subject::Held(Held::Funcs)),
     ("cont", 1, Subject::Held(Held::Conts)),
     ("slab", 1, Subject::Held(Held::Slab)),
     ("memory", 1, Subject::Held(Held::Memory)),
     ("roots", 1, Subject::Held(Held::Roots)),
-    ("word", 1, Subject::Alone(Alone::Words)),
-    ("ref", 1, Subject::Alone(Alone::Refs)),
-    ("header", 1, Subject::Alone(Alone::Headers)),
-    ("reply", 1, Subject::Alone(Alone::Replies)),
-    ("text", 1, Subject::Alone(Alone::Values)),
+    ("reply", 1, Subject::Replies),
+    ("text", 1, Subject::Values),
     ("id", 0, Subject::Small(Small::Ids)),
     ("faults", 0, Subject::Small(Small::Faults)),
     ("offsets", 0, Subject::Small(Small::Offsets)),
     ("stored", 0, Subject::Small(Small::Stored)),
 ];
 
-/// What a row begins anew.
-#[derive(Clone, Copy)]
-enum Begins {
-    Bytes,
-    Hosts,
-    Funcs,
-    Slab,
-    Memory,
-    Roots,
-}
-
-const BEGINS: [(&str, usize, Begins); 6] = [
-    ("bytes", ANY, Begins::Bytes),
-    ("hosts", 0, Begins::Hosts),
-    ("funcs", 0, Begins::Funcs),
-    ("slab", 0, Begins::Slab),
-    ("memory", 1, Begins::Memory),
-    ("roots", 0, Begins::Roots),
+/// What `new` begins anew, and how many numbers that takes.
+const BEGINS: [(&str, usize, Held); 6] = [
+    ("hosts", 0, Held::Hosts),
+    ("funcs", 0, Held::Funcs),
+    ("conts", 0, Held::Conts),
+    ("slab", 0, Held::Slab),
+    ("memory", 1, Held::Memory),
+    ("roots", 0, Held::Roots),
 ];
 
 impl Cases {
@@ -115,7 +88,6 @@ impl Cases {
         let types = two_types(alloc)?;
         Ok(Cases {
             alloc,
-            bytes: Vec::new(alloc),
             types,
             hosts: ExternRefHostDataTable::new(alloc),
             funcs: FuncRefTable::new(alloc),
@@ -124,29 +96,6 @@ impl Cases {
             memory,
             roots: GcRootsList::new(alloc),
         })
-    }
-
-    /// Writes the answer to a row.
-    pub(crate) fn answer(
-        &mut self,
-        words: &[&str],
-        numbers: &[u128],
-        out: &mut String,
-    ) -> Result<(), CaseFault> {
-        let Some((first, rest)) = words.split_first() else {
-            return Err(CaseFault::BadCase);
-        };
-        let call = rest.first().copied().unwrap_or("");
-        match named(&SUBJECTS, first, rest.len())? {
-            Subject::New => self.renew(call, numbers, out),
-            Subject::View => {
-                views::answer(self.alloc, self.bytes.as_mut_slice(), rest, numbers, out)
-            }
-            Subject::Value => values::answer(rest, numbers, out),
-            Subject::Held(held) => self.answer_held(held, call, numbers, out),
-            Subject::Alone(alone) => answer_alone(self.alloc, alone, call, numbers, out),
-            Subject::Small(small) => answer_small(small, numbers, out),
-        }
     }
 
     /// Writes the answer to a row on what is held.
@@ -167,35 +116,48 @@ impl Cases {
         }
     }
 
-    /// Begins with other bytes, another table or another memory.
+    /// Begins with another table or another memory.
     fn renew(&mut self, name: &str, numbers: &[u128], out: &mut String) -> Result<(), CaseFault> {
-        match named(&BEGINS, name, numbers.len())? {
-            Begins::Bytes => self.bytes = bytes_of(self.alloc, numbers)?,
-            Begins::Hosts => self.hosts = ExternRefHostDataTable::new(self.alloc),
-            Begins::Funcs => self.funcs = FuncRefTable::new(self.alloc),
-            Begins::Slab => self.slab = Slab::new(self.alloc),
-            Begins::Memory => self.memory = new_memory(self.alloc, low_words(numbers)[0])?,
-            Begins::Roots => self.roots = GcRootsList::new(self.alloc),
+        let held = named(&BEGINS, name, numbers.len())?;
+        let [pages, ..] = low_words(numbers);
+        self.begin(held, pages)?;
+        Ok(out.push_str("done")?)
+    }
+
+    /// Begins with another of what is held, a memory of so many pages.
+    fn begin(&mut self, held: Held, pages: u32) -> Result<(), CaseFault> {
+        match held {
+            Held::Hosts => self.hosts = ExternRefHostDataTable::new(self.alloc),
+            Held::Funcs => self.funcs = FuncRefTable::new(self.alloc),
+            Held::Conts => self.conts = ContRefTable::new(self.alloc),
+            Held::Slab => self.slab = Slab::new(self.alloc),
+            Held::Memory => self.memory = new_memory(self.alloc, pages)?,
+            Held::Roots => self.roots = GcRootsList::new(self.alloc),
         }
-        out.push_str("done")?;
         Ok(())
     }
 }
 
-/// Writes the answer to a row on what nothing is held of.
-fn answer_alone(
-    alloc: Global,
-    alone: Alone,
-    call: &str,
-    numbers: &[u128],
-    out: &mut String,
-) -> Result<(), CaseFault> {
-    match alone {
-        Alone::Words => words::answer(call, numbers, out),
-        Alone::Refs => typed::answer(call, numbers, out),
-        Alone::Headers => headers::answer(alloc, call, numbers, out),
-        Alone::Replies => texts::answer(alloc, call, numbers, out),
-        Alone::Values => texts::show_value(alloc, call, numbers, out),
+impl Answers for Cases {
+    type Fault = CaseFault;
+
+    fn answer(
+        &mut self,
+        words: &[&str],
+        numbers: &[u128],
+        out: &mut String,
+    ) -> Result<(), CaseFault> {
+        let Some((first, rest)) = words.split_first() else {
+            return Err(NoCase.into());
+        };
+        let call = rest.first().copied().unwrap_or("");
+        match named(&SUBJECTS, first, rest.len())? {
+            Subject::New => self.renew(call, numbers, out),
+            Subject::Held(held) => self.answer_held(held, call, numbers, out),
+            Subject::Replies => texts::answer(self.alloc, call, numbers, out),
+            Subject::Values => texts::show_value(self.alloc, call, numbers, out),
+            Subject::Small(small) => answer_small(small, numbers, out),
+        }
     }
 }
 

@@ -1,22 +1,18 @@
 //! Why a row isn't answered.
 
-use gc_refs::DataFault;
+use case_rows::NoCase;
 use gc_types::TypeFault;
 use std::alloc::AllocError;
 use std::io;
 use thiserror::Error;
 
-/// Why a row isn't answered. What a view refuses is printed by its text.
+/// Why a row isn't answered. What a table refuses is printed as its answer.
 #[derive(Debug, Drop, Error)]
 pub(crate) enum CaseFault {
-    #[error("the row is no case")]
-    BadCase,
-    #[error("a table has no room")]
-    NoRoom,
+    #[error(transparent)]
+    Case(#[from] NoCase),
     #[error(transparent)]
     Types(#[from] TypeFault),
-    #[error(transparent)]
-    Data(#[from] DataFault),
     #[error(transparent)]
     File(#[from] io::Error),
     #[error(transparent)]

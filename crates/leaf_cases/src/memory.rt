@@ -3,7 +3,7 @@
 ghost use Rattle.std.specs.Prelude.{◌≡◌, ◌<◌, length, slice_set};
 
 use crate::fault::CaseFault;
-use crate::row::{ANY, bytes_of, firsts, low_u8, low_u32, low_u64, low_words, named};
+use case_rows::{ANY, NoCase, bytes_of, firsts, low_u8, low_u32, low_u64, low_words, named};
 use gc_memory::memory::MAX_PAGES;
 use gc_memory::{HeapMemory, offsets};
 use gc_refs::VMGcHeader;
@@ -60,7 +60,7 @@ const CALLS: [(&str, usize, Call); 13] = [
 /// A memory of that many pages.
 pub(crate) fn new_memory(alloc: Global, pages: u32) -> Result<HeapMemory, CaseFault> {
     if pages > MAX_PAGES {
-        return Err(CaseFault::BadCase);
+        return Err(NoCase.into());
     }
     Ok(HeapMemory::new(alloc, pages)?)
 }
@@ -117,7 +117,7 @@ fn change(
 /// Says that it is done, where it is.
 fn show_done(is_done: bool, out: &mut String) -> Result<(), CaseFault> {
     if !is_done {
-        return Err(CaseFault::BadCase);
+        return Err(NoCase.into());
     }
     out.push_str("done")?;
     Ok(())
@@ -137,7 +137,7 @@ fn show_size(memory: &HeapMemory, out: &mut String) -> Result<(), AllocError> {
 /// Grows a memory, and says that it is done.
 fn grow(memory: &mut HeapMemory, pages: u32, out: &mut String) -> Result<(), CaseFault> {
     if pages > MAX_PAGES - memory.pages() {
-        return Err(CaseFault::BadCase);
+        return Err(NoCase.into());
     }
     memory.grow(pages)?;
     show_done(true, out)
@@ -151,7 +151,7 @@ fn put(
     out: &mut String,
 ) -> Result<(), CaseFault> {
     let Some((at, rest)) = numbers.split_first() else {
-        return Err(CaseFault::BadCase);
+        return Err(NoCase.into());
     };
     let bytes = bytes_of(alloc, rest)?;
     show_done(

@@ -1,7 +1,7 @@
 //! Lists of roots that are filled, read and written.
 
 use crate::fault::CaseFault;
-use crate::row::{firsts, low_u32, low_u64, named};
+use case_rows::{firsts, low_u32, low_u64, named};
 use gc_refs::{I31, VMGcRef};
 use gc_roots::{GcRoot, GcRootsList, RootPlace};
 use std::alloc::AllocError;

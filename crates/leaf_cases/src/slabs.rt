@@ -1,7 +1,7 @@
 //! A slab that is filled, emptied and filled again.
 
 use crate::fault::CaseFault;
-use crate::row::{low_words, named};
+use case_rows::{NoCase, low_words, named};
 use gc_tables::{Id, Slab};
 use std::alloc::AllocError;
 
@@ -39,7 +39,7 @@ pub(crate) fn answer(
         (Call::Get, Some(id)) => slab.get(id).copied(),
         (Call::Ids, _) => return Ok(show_ids(slab, out)?),
         (Call::Reserve, _) => return Ok(reserve(slab, number as usize, out)?),
-        _ => return Err(CaseFault::BadCase),
+        _ => return Err(NoCase.into()),
     };
     write!(out, "{shown:?}")?;
     Ok(())

@@ -1,7 +1,7 @@
 //! The tables beside a heap.
 
 use crate::fault::CaseFault;
-use crate::row::{firsts, low_u32, low_u64, low_words, named};
+use case_rows::{NoCase, firsts, low_u32, low_u64, low_words, named};
 use gc_tables::{
     ContRefTable, ExternRefHostDataId, ExternRefHostDataTable, FuncFault, FuncRefTable,
     FuncRefTableId, HostFault, Id, InternFault, SlabFault,
@@ -88,19 +88,34 @@ pub(crate) fn answer_host(
 ) -> Result<(), CaseFault> {
     let call = named(&HOST_CALLS, call, numbers.len())?;
     let [number, value, _] = low_words(numbers);
-    let shown = match (call, ExternRefHostDataId::from_raw(number)) {
-        (Call::Alloc, _) => alloc_host(table, number),
-        (Call::Len, _) => Ok(table.len()),
-        (Call::Get, Some(id)) => get_host(table, id),
-        (Call::Set, Some(id)) => set_host(table, id, value),
-        (Call::Free, Some(id)) => free_host(table, id),
-        _ => return Err(CaseFault::BadCase),
-    };
-    match shown {
-        Ok(number) => write!(out, "{number}")?,
-        Err(fault) => write!(out, "{fault}")?,
+    match (call, ExternRefHostDataId::from_raw(number)) {
+        (Call::Alloc, _) => Ok(show_host(alloc_host(table, number), out)?),
+        (Call::Len, _) => Ok(show_host(Ok(table.len()), out)?),
+        (call, Some(id)) => Ok(show_host(call_host(table, call, id, value), out)?),
+        _ => Err(NoCase.into()),
     }
-    Ok(())
+}
+
+/// What a call answers that takes an id.
+fn call_host(
+    table: &mut ExternRefHostDataTable<u32>,
+    call: Call,
+    id: ExternRefHostDataId,
+    value: u32,
+) -> Result<u64, HostFault> {
+    match call {
+        Call::Get => get_host(table, id),
+        Call::Set => set_host(table, id, value),
+        _ => free_host(table, id),
+    }
+}
+
+/// Writes a number that was answered, or why there is none.
+fn show_host(answer: Result<u64, HostFault>, out: &mut String) -> Result<(), AllocError> {
+    match answer {
+        Ok(number) => write!(out, "{number}"),
+        Err(fault) => write!(out, "{fault}"),
+    }
 }
 
 /// Adds a host value, and answers its id, or 0 where there is no room.
@@ -159,19 +174,35 @@ pub(crate) fn answer_func(
     let call = named(&FUNC_CALLS, call, numbers.len())?;
     let [number, index, _] = low_words(numbers);
     let ty = VMSharedTypeIndex::new(index);
-    let written = match (call, FuncRefTableId::from_raw(number)) {
-        (Call::Get, Some(id)) => show_func(table.get_untyped(id), out),
-        (Call::GetTyped, Some(id)) => show_func(table.get_typed(types, id, ty), out),
-        (Call::Intern, _) => show_interned(table.intern(Func::new(number, ty)).ok(), out),
-        (Call::None, _) => show_interned(table.intern(None).ok(), out),
-        (Call::Id, _) => show_interned(table.id_of(Func::new(number, ty)), out),
-        (Call::NoId, _) => show_interned(table.id_of(None), out),
-        (Call::Reserve, _) => reserve_funcs(table, number as usize, out),
-        (Call::Len, _) => write!(out, "{}", table.len()),
-        _ => return Err(CaseFault::BadCase),
-    };
-    written?;
-    Ok(())
+    match (call, FuncRefTableId::from_raw(number)) {
+        (Call::Get, Some(id)) => Ok(show_func(table.get_untyped(id), out)?),
+        (Call::GetTyped, Some(id)) => Ok(show_func(table.get_typed(types, id, ty), out)?),
+        (Call::Get | Call::GetTyped, None) => Err(NoCase.into()),
+        (call, _) => Ok(intern_func(table, call, number, ty, out)?),
+    }
+}
+
+/// Writes the answer of a call that takes no id.
+fn intern_func(
+    table: &mut FuncRefTable,
+    call: Call,
+    number: u32,
+    ty: VMSharedTypeIndex,
+    out: &mut String,
+) -> Result<(), AllocError> {
+    match call {
+        Call::Intern => show_interned(table.intern(Func::new(number, ty)).ok(), out),
+        Call::None => show_interned(table.intern(None).ok(), out),
+        Call::Id => show_interned(table.id_of(Func::new(number, ty)), out),
+        Call::NoId => show_interned(table.id_of(None), out),
+        Call::Reserve => reserve_funcs(table, number as usize, out),
+        _ => show_len(table.len(), out),
+    }
+}
+
+/// Writes how many there are.
+fn show_len(len: u64, out: &mut String) -> Result<(), AllocError> {
+    write!(out, "{len}")
 }
 
 /// Writes the id of a function, if it has one.

@@ -1,7 +1,7 @@
 //! The texts of replies.
 
 use crate::fault::CaseFault;
-use crate::row::{ANY, bytes_of, firsts, low_i32, low_i64, low_u32, low_u64, named};
+use case_rows::{ANY, bytes_of, firsts, low_i32, low_i64, low_u32, low_u64, named};
 use gc_commands::{ByteText, Refusal, Reply, ReplyValue, reply_text, spelling_is_unique};
 use gc_refs::V128;
 use std::alloc::{AllocError, Global};

@@ -55,7 +55,8 @@ pub(crate) fn first<H: GcHeap>(
     list: &HeapList,
 ) -> Result<Option<i64>, ListFault>
     requires { (kit : Kit) × ListShelf H.KIND store.old kit (list.now.root ∷ []) }
-    ensures { (kit : Kit) (vs : List (Option GcRootIndex)) → ListShelf H.KIND store.old kit (list.now.root ∷ vs) → ListShelf H.KIND store.new kit (list.now.root ∷ vs) }
+    ensures { (kit : Kit) (vs : List (Option GcRootIndex)) → ListShelf H.KIND store.old kit (list.now.root ∷ vs)
+        → ListShelf H.KIND store.new kit (list.now.root ∷ vs) }
 {
     list.head(store)
 }
@@ -80,7 +81,8 @@ pub(crate) fn all<H: GcHeap>(
     list: &HeapList,
 ) -> Result<Vec<i64>, ListFault>
     requires { (kit : Kit) × ListShelf H.KIND store.old kit (list.now.root ∷ []) }
-    ensures { (kit : Kit) (vs : List (Option GcRootIndex)) → ListShelf H.KIND store.old kit (list.now.root ∷ vs) → ListShelf H.KIND store.new kit (list.now.root ∷ vs) }
+    ensures { (kit : Kit) (vs : List (Option GcRootIndex)) → ListShelf H.KIND store.old kit (list.now.root ∷ vs)
+        → ListShelf H.KIND store.new kit (list.now.root ∷ vs) }
 {
     list.copy_out(alloc, store)
 }

@@ -4,8 +4,8 @@ ghost use Rattle.std.specs.Prelude.{ℕ, IfOk};
 ghost use Rattle.gc_types.specs.declared.kind.VMGcKind.{VMGcKind};
 ghost use Rattle.gc_store.specs.Kinds.{NamesKind};
 
+use crate::page::Page;
 use crate::setup::{ample, exceptions};
-use crate::show::{show_read, show_type};
 use gc_heap::GcHeap;
 use gc_objects::{ExnRef, StoreExn, ThrowFault, Val};
 use gc_rooted::Rooted;
@@ -31,47 +31,51 @@ fn new_exception<H: GcHeap>(store: &mut Store<H, u64>) -> Result<Rooted<ExnRef>>
 }
 
 /// Asks for an exception's tag and type.
-fn ask<H: GcHeap>(rt: &impl Print, store: &mut Store<H, u64>) -> Result<()> {
+fn ask<H: GcHeap>(page: &mut Page, store: &mut Store<H, u64>) -> Result<()> {
     let handle = new_exception(store)?;
     let tag = ExnRef::tag(store, &handle)?;
-    println!(rt; "tag {} {}", tag.instance, tag.index)?;
+    let written = writeln!(page.text, "tag {} {}", tag.instance, tag.index);
+    page.keep(written);
     let ty = ExnRef::ty(store, &handle)?;
     let matches = ExnRef::matches_ty(store, &handle, &ty)?;
-    show_type(rt, ty.index().as_u32(), matches)
+    page.show_type(ty.index().as_u32(), matches);
+    Ok(())
 }
 
 /// Reads a field of an exception.
-fn read<H: GcHeap>(rt: &impl Print, store: &mut Store<H, u64>, index: u32) -> Result<()> {
+fn read<H: GcHeap>(page: &mut Page, store: &mut Store<H, u64>, index: u32) -> Result<()> {
     let handle = new_exception(store)?;
     let answer = ExnRef::field(store, &handle, index as usize);
-    show_read(rt, "field", index, answer)
+    page.show_read("field", index, answer);
+    Ok(())
 }
 
 /// Shows whether an exception was pending, which is none any more.
-fn take<H: GcHeap>(rt: &impl Print, store: &mut Store<H, u64>) -> Result<()> {
+fn take<H: GcHeap>(page: &mut Page, store: &mut Store<H, u64>) -> Result<()> {
     match store.take_pending_exception()? {
-        Some(_) => println!(rt; "an exception is taken")?,
-        None => println!(rt; "nothing is pending")?,
+        Some(_) => page.show("an exception is taken"),
+        None => page.show("nothing is pending"),
     }
     Ok(())
 }
 
 /// Throws an exception, and takes it once.
-fn throw<H: GcHeap>(rt: &impl Print, store: &mut Store<H, u64>) -> Result<()> {
+fn throw<H: GcHeap>(page: &mut Page, store: &mut Store<H, u64>) -> Result<()> {
     let handle = new_exception(store)?;
     let thrown: Result<u64, ThrowFault> = store.throw(handle);
-    match thrown {
-        Ok(value) => println!(rt; "throw: {value}")?,
-        Err(fault) => println!(rt; "throw: {fault}")?,
-    }
-    take(rt, store)?;
-    take(rt, store)
+    let written = match thrown {
+        Ok(value) => writeln!(page.text, "throw: {value}"),
+        Err(fault) => writeln!(page.text, "throw: {fault}"),
+    };
+    page.keep(written);
+    take(page, store)?;
+    take(page, store)
 }
 
 /// Makes exceptions, asks for their tag and type, reads their fields, and throws one.
-pub(crate) fn run_exceptions<H: GcHeap>(rt: &impl Print, store: &mut Store<H, u64>) -> Result<()> {
-    ask(rt, store)?;
-    read(rt, store, 0)?;
-    read(rt, store, 1)?;
-    throw(rt, store)
+pub(crate) fn run_exceptions<H: GcHeap>(page: &mut Page, store: &mut Store<H, u64>) -> Result<()> {
+    ask(page, store)?;
+    read(page, store, 0)?;
+    read(page, store, 1)?;
+    throw(page, store)
 }

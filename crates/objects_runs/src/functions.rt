@@ -1,10 +1,10 @@
 //! Functions among values: stored, read and overwritten, and refused where they don't fit.
 
+use crate::page::Page;
 use crate::setup::{
     FUNCTION, FUNCTIONS, HOLDER, OTHER_FUNCTION, ample, filled, function_type, listed,
     new_struct_of, structs_of,
 };
-use crate::show::show_made;
 use crate::structs::write_and_read;
 use crate::{arrays, structs};
 use gc_heap::GcHeap;
@@ -20,32 +20,48 @@ fn function(number: u32, ty: u32) -> Result<Val> {
 }
 
 /// Shows whether functions fit a type of functions.
-fn show_fits<H: GcHeap>(rt: &impl Print, store: &Store<H, u64>) -> Result<()> {
+fn show_fits<H: GcHeap>(page: &mut Page, store: &Store<H, u64>) -> Result<()> {
     let ty = function_type();
     let own = function(7, FUNCTION)?.matches_ty(store, &ty)?;
     let none = Val::FuncRef(None).matches_ty(store, &ty)?;
     let other = function(7, OTHER_FUNCTION)?.matches_ty(store, &ty)?;
-    println!(rt; "fits: {own}, none: {none}, of another type: {other}")?;
+    let written = writeln!(
+        page.text,
+        "fits: {own}, none: {none}, of another type: {other}"
+    );
+    page.keep(written);
     Ok(())
 }
 
 /// A function in a field is overwritten by another one, and by none; one of another type fits no field, and no reference does.
-pub(crate) fn run_fields<H: GcHeap>(rt: &impl Print, store: &mut Store<H, u64>) -> Result<()> {
-    show_fits(rt, store)?;
+pub(crate) fn run_fields<H: GcHeap>(page: &mut Page, store: &mut Store<H, u64>) -> Result<()> {
+    show_fits(page, store)?;
+    let other = function(7, OTHER_FUNCTION)?;
+    let values = [
+        function(8, FUNCTION)?,
+        Val::FuncRef(None),
+        other,
+        Val::AnyRef(None),
+    ];
     let handle = new_struct_of(store, HOLDER, &[function(7, FUNCTION)?])?;
-    structs::read(rt, store, handle, 0)?;
-    write_and_read(rt, store, handle, &function(8, FUNCTION)?)?;
-    write_and_read(rt, store, handle, &Val::FuncRef(None))?;
-    write_and_read(rt, store, handle, &function(7, OTHER_FUNCTION)?)?;
-    write_and_read(rt, store, handle, &Val::AnyRef(None))?;
+    structs::read(page, store, handle, 0)?;
+    for value in values {
+        write_and_read(page, store, handle, &value)?;
+    }
+    make_of_other(page, store, other)
+}
+
+/// A struct whose field holds functions isn't made of one of another type.
+fn make_of_other<H: GcHeap>(page: &mut Page, store: &mut Store<H, u64>, other: Val) -> Result<()> {
     let allocator = structs_of(store, HOLDER)?;
-    let values = [function(7, OTHER_FUNCTION)?];
+    let values = [other];
     let answer = StructRef::new(store, &mut ample(), &allocator, &values);
-    show_made(rt, "a function of another type", answer)
+    page.show_made("a function of another type", answer);
+    Ok(())
 }
 
 /// An array of functions, which a collection leaves; and one of none.
-pub(crate) fn run_elements<H: GcHeap>(rt: &impl Print, store: &mut Store<H, u64>) -> Result<()> {
+pub(crate) fn run_elements<H: GcHeap>(page: &mut Page, store: &mut Store<H, u64>) -> Result<()> {
     let values = [
         function(7, FUNCTION)?,
         Val::FuncRef(None),
@@ -54,10 +70,10 @@ pub(crate) fn run_elements<H: GcHeap>(rt: &impl Print, store: &mut Store<H, u64>
     let handle = listed(store, FUNCTIONS, &values)?;
     store.gc();
     for index in 0..4 {
-        arrays::read(rt, store, handle, index)?;
+        arrays::read(page, store, handle, index)?;
     }
-    arrays::write(rt, store, handle, 1, function(8, FUNCTION)?)?;
-    arrays::read(rt, store, handle, 1)?;
+    arrays::write(page, store, handle, 1, function(8, FUNCTION)?)?;
+    arrays::read(page, store, handle, 1)?;
     let handle = filled(store, FUNCTIONS, &Val::FuncRef(None), 2)?;
-    arrays::read(rt, store, handle, 1)
+    arrays::read(page, store, handle, 1)
 }

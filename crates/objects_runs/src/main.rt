@@ -10,10 +10,10 @@ mod functions;
 mod gone;
 mod gone_values;
 mod owned;
+mod page;
 mod references;
 mod scopes;
 mod setup;
-mod show;
 mod structs;
 
 ghost use Rattle.std.specs.Prelude.{◌≡◌};
@@ -25,6 +25,7 @@ use crate::exceptions::run_exceptions;
 use crate::functions::{run_elements, run_fields};
 use crate::gone::run_gone;
 use crate::owned::run_owned;
+use crate::page::Page;
 use crate::references::{run_hosts, run_number};
 use crate::scopes::run_scopes;
 use crate::setup::declare_types;
@@ -50,46 +51,46 @@ const STRANGER: StoreId = StoreId {
 
 /// Makes the calls on structs, arrays and references.
 fn run_objects<H: GcHeap>(
-    rt: &impl Print,
+    page: &mut Page,
     store: &mut Store<H, u64>,
     stranger: &mut Store<H, u64>,
 ) -> Result<()> {
-    run_struct(rt, store)?;
-    run_refused_structs(rt, store, stranger)?;
-    run_stale_struct(rt, store)?;
-    run_bytes(rt, store)?;
-    let value = run_number(rt, store)?;
-    run_references(rt, store, &value)?;
-    run_refused_arrays(rt, store)
+    run_struct(page, store)?;
+    run_refused_structs(page, store, stranger)?;
+    run_stale_struct(page, store)?;
+    run_bytes(page, store)?;
+    let value = run_number(page, store)?;
+    run_references(page, store, &value)?;
+    run_refused_arrays(page, store)
 }
 
 /// Makes the calls on values of the embedder, exceptions, functions, continuations and owned roots.
-fn run_others<H: GcHeap>(rt: &impl Print, store: &mut Store<H, u64>) -> Result<()> {
-    run_hosts(rt, store)?;
-    run_exceptions(rt, store)?;
-    run_fields(rt, store)?;
-    run_elements(rt, store)?;
-    run_cont_fields(rt, store)?;
-    run_cont_elements(rt, store)?;
-    run_owned(rt, store)
+fn run_others<H: GcHeap>(page: &mut Page, store: &mut Store<H, u64>) -> Result<()> {
+    run_hosts(page, store)?;
+    run_exceptions(page, store)?;
+    run_fields(page, store)?;
+    run_elements(page, store)?;
+    run_cont_fields(page, store)?;
+    run_cont_elements(page, store)?;
+    run_owned(page, store)
 }
 
 /// Makes each call on a store, with another one whose handles are none of its own.
 fn run_calls<H: GcHeap>(
-    rt: &impl Print,
+    page: &mut Page,
     store: &mut Store<H, u64>,
     stranger: &mut Store<H, u64>,
 ) -> Result<()> {
     declare_types(store)?;
     declare_types(stranger)?;
-    run_objects(rt, store, stranger)?;
-    run_others(rt, store)?;
-    run_gone(rt, store, stranger)
+    run_objects(page, store, stranger)?;
+    run_others(page, store)?;
+    run_gone(page, store, stranger)
 }
 
 /// Makes each call on stores over these heaps.
 fn run_over<H: GcHeap + Drop>(
-    rt: &impl Print,
+    page: &mut Page,
     alloc: Global,
     heap: H,
     other_heap: H,
@@ -102,29 +103,40 @@ fn run_over<H: GcHeap + Drop>(
 {
     let mut store = Store::new(alloc, STORE, heap, config)?;
     let mut stranger = Store::new(alloc, STRANGER, other_heap, config)?;
-    run_calls(rt, &mut store, &mut stranger)
+    run_calls(page, &mut store, &mut stranger)
+}
+
+/// Makes each call on stores over heaps of each kind.
+fn run_kinds(page: &mut Page, alloc: Global, config: HeapConfig) -> Result<()> {
+    page.show("== null");
+    let (heap, other) = (NullHeap::new(alloc), NullHeap::new(alloc));
+    run_over(page, alloc, heap, other, config)?;
+    page.show("== counting");
+    let (heap, other) = (DrcHeap::new(alloc), DrcHeap::new(alloc));
+    run_over(page, alloc, heap, other, config)?;
+    page.show("== copying");
+    let (heap, other) = (CopyingHeap::new(alloc), CopyingHeap::new(alloc));
+    run_over(page, alloc, heap, other, config)
+}
+
+/// Makes each call.
+fn run_all(page: &mut Page, alloc: Global) -> Result<()> {
+    let Some(config) = HeapConfig::with_pages(1) else {
+        return Err(RunFault::NoConfiguration);
+    };
+    run_kinds(page, alloc, config)?;
+    run_scopes(page, alloc)
+}
+
+/// What is printed.
+fn shown(alloc: Global) -> Result<String> {
+    let mut page = Page::new(alloc);
+    run_all(&mut page, alloc)?;
+    page.finish()
 }
 
 fn main(rt: HostRuntime) -> Result<()> {
-    let alloc = rt.alloc();
-    let config = HeapConfig::with_pages(1).ok_or(RunFault::NoConfiguration)?;
-    println!(rt; "== null")?;
-    run_over(
-        &rt,
-        alloc,
-        NullHeap::new(alloc),
-        NullHeap::new(alloc),
-        config,
-    )?;
-    println!(rt; "== counting")?;
-    run_over(&rt, alloc, DrcHeap::new(alloc), DrcHeap::new(alloc), config)?;
-    println!(rt; "== copying")?;
-    run_over(
-        &rt,
-        alloc,
-        CopyingHeap::new(alloc),
-        CopyingHeap::new(alloc),
-        config,
-    )?;
-    run_scopes(&rt, alloc)
+    let text = shown(rt.alloc())?;
+    print!(rt; "{text}")?;
+    Ok(())
 }

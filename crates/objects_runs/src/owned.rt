@@ -1,5 +1,6 @@
 //! Owned roots with two handles.
 
+use crate::page::Page;
 use gc_heap::GcHeap;
 use gc_objects::AnyRef;
 use gc_refs::I31;
@@ -8,57 +9,48 @@ use gc_store::Store;
 use run_faults::Result;
 
 /// Gives a handle up.
-fn give_up<H: GcHeap>(
-    rt: &impl Print,
-    store: &mut Store<H, u64>,
-    handle: OwnedRooted<AnyRef>,
-) -> Result<()> {
+fn give_up<H: GcHeap>(page: &mut Page, store: &mut Store<H, u64>, handle: OwnedRooted<AnyRef>) {
     match handle.unroot(store) {
-        Ok(()) => println!(rt; "unroot: given up")?,
-        Err(_) => println!(rt; "unroot: handed back")?,
+        Ok(()) => page.show("unroot: given up"),
+        Err(_) => page.show("unroot: handed back"),
     }
-    Ok(())
-}
-
-/// Shows whether a handle's root stands.
-fn show_root<H: GcHeap>(
-    rt: &impl Print,
-    store: &mut Store<H, u64>,
-    handle: &OwnedRooted<AnyRef>,
-) -> Result<()> {
-    match handle.to_rooted(store) {
-        Ok(_) => println!(rt; "to_rooted: made")?,
-        Err(fault) => println!(rt; "to_rooted: {fault}")?,
-    }
-    Ok(())
 }
 
 /// Gives two handles of one root up, with a collection between.
 fn give_both_up<H: GcHeap>(
-    rt: &impl Print,
+    page: &mut Page,
     store: &mut Store<H, u64>,
     early: OwnedRooted<AnyRef>,
     late: OwnedRooted<AnyRef>,
-) -> Result<()> {
-    give_up(rt, store, early)?;
+) {
+    give_up(page, store, early);
     store.gc();
-    show_root(rt, store, &late)?;
-    give_up(rt, store, late)
+    page.show_root("to_rooted", late.to_rooted(store));
+    give_up(page, store, late);
+}
+
+/// Makes an owned root with two handles, and gives them up in that order or the other way round.
+fn give_in_turn<H: GcHeap>(
+    page: &mut Page,
+    store: &mut Store<H, u64>,
+    is_turned: bool,
+) -> Result<()> {
+    let rooted = AnyRef::from_i31(store, I31::wrapping_u32(4))?;
+    let made = rooted.to_owned_rooted(store)?;
+    let cloned = made.clone_in(store)?;
+    store.exit_gc_lifo_scope(0);
+    if is_turned {
+        give_both_up(page, store, cloned, made);
+    } else {
+        give_both_up(page, store, made, cloned);
+    }
+    Ok(())
 }
 
 /// An owned root stands until the second of its handles is given up, whichever that is.
-pub(crate) fn run_owned<H: GcHeap>(rt: &impl Print, store: &mut Store<H, u64>) -> Result<()> {
+pub(crate) fn run_owned<H: GcHeap>(page: &mut Page, store: &mut Store<H, u64>) -> Result<()> {
     for is_turned in [false, true] {
-        let rooted = AnyRef::from_i31(store, I31::wrapping_u32(4))?;
-        let made = rooted.to_owned_rooted(store)?;
-        let cloned = made.clone_in(store)?;
-        store.exit_gc_lifo_scope(0);
-        let (early, late) = if is_turned {
-            (cloned, made)
-        } else {
-            (made, cloned)
-        };
-        give_both_up(rt, store, early, late)?;
+        give_in_turn(page, store, is_turned)?;
     }
     Ok(())
 }

@@ -1,10 +1,11 @@
 //! A scope of roots with room for two.
 
+use crate::page::Page;
 use gc_heap::{GcHeap, NullHeap};
 use gc_objects::AnyRef;
 use gc_refs::I31;
 use gc_rooted::{RootScope, Rooted};
-use gc_store::{HeapConfig, RootFault, Store, StoreId};
+use gc_store::{HeapConfig, Store, StoreId};
 use run_faults::{Result, RunFault};
 use std::alloc::Global;
 
@@ -17,50 +18,49 @@ const NARROW: StoreId = StoreId {
     number: 2,
 };
 
-/// Shows whether a root was made.
-fn show_made(rt: &impl Print, answer: Result<Rooted<AnyRef>, RootFault>) -> Result<()> {
-    match answer {
-        Ok(_) => println!(rt; "from_i31: made")?,
-        Err(fault) => println!(rt; "from_i31: {fault}")?,
-    }
-    Ok(())
-}
-
 /// Shows the number that a handle names.
 fn show_number<H: GcHeap>(
-    rt: &impl Print,
+    page: &mut Page,
     store: &Store<H, u64>,
     handle: Rooted<AnyRef>,
 ) -> Result<()> {
-    match AnyRef::as_i31(store, handle)? {
-        Some(number) => println!(rt; "number {}", number.get_u32())?,
-        None => println!(rt; "no number")?,
-    }
+    let number = AnyRef::as_i31(store, handle)?;
+    page.show_number(
+        "number",
+        number.map(|number| u64::from(number.get_u32())),
+        "no number",
+    );
     Ok(())
 }
 
-/// Makes three roots in a scope that has room for two, which stay as they are.
-fn fill_scope<H: GcHeap>(rt: &impl Print, store: &mut Store<H, u64>) -> Result<()> {
+/// Makes three roots in a store that has room for two, which stay as they are.
+fn fill<H: GcHeap>(page: &mut Page, store: &mut Store<H, u64>) -> Result<()> {
+    let first = AnyRef::from_i31(store, I31::wrapping_u32(1))?;
+    let second = AnyRef::from_i31(store, I31::wrapping_u32(2))?;
+    page.show_root("from_i31", AnyRef::from_i31(store, I31::wrapping_u32(3)));
+    show_number(page, store, first)?;
+    show_number(page, store, second)
+}
+
+/// Makes three roots in a scope that has room for two.
+fn fill_scope<H: GcHeap>(page: &mut Page, store: &mut Store<H, u64>) -> Result<()> {
     let mut scope = RootScope::new(store);
     scope.reserve(MOST_ROOTS as usize)?;
-    let first = AnyRef::from_i31(scope.store(), I31::wrapping_u32(1))?;
-    let second = AnyRef::from_i31(scope.store(), I31::wrapping_u32(2))?;
-    let third = AnyRef::from_i31(scope.store(), I31::wrapping_u32(3));
-    show_made(rt, third)?;
-    show_number(rt, scope.store(), first)?;
-    show_number(rt, scope.store(), second)
+    fill(page, scope.store())
 }
 
 /// Fills a scope twice.
-fn fill_scopes<H: GcHeap>(rt: &impl Print, store: &mut Store<H, u64>) -> Result<()> {
-    fill_scope(rt, store)?;
-    fill_scope(rt, store)
+fn fill_scopes<H: GcHeap>(page: &mut Page, store: &mut Store<H, u64>) -> Result<()> {
+    fill_scope(page, store)?;
+    fill_scope(page, store)
 }
 
 /// A scope with room for two roots, twice: the first one gives its room back.
-pub(crate) fn run_scopes(rt: &impl Print, alloc: Global) -> Result<()> {
-    println!(rt; "== two roots")?;
-    let config = HeapConfig::new(1, MOST_ROOTS, MOST_ROOTS, None).ok_or(RunFault::NoConfiguration)?;
+pub(crate) fn run_scopes(page: &mut Page, alloc: Global) -> Result<()> {
+    page.show("== two roots");
+    let Some(config) = HeapConfig::new(1, MOST_ROOTS, MOST_ROOTS, None) else {
+        return Err(RunFault::NoConfiguration);
+    };
     let mut store = Store::new(alloc, NARROW, NullHeap::new(alloc), config)?;
-    fill_scopes(rt, &mut store)
+    fill_scopes(page, &mut store)
 }

@@ -7,9 +7,9 @@ use crate::fault::CaseFault;
 use gc_heap::GcHeap;
 use gc_refs::I31;
 use gc_rooted::{GcRef, OwnedRooted, Rooted, RootedGcRef, ref_eq};
-use gc_store::{GcClass, GcRootIndex, RootSlot, Store};
+use gc_store::{GcClass, GcRootIndex, RootFault, RootSlot, Store};
 use gc_types::VMGcKind;
-use std::io::Write;
+use std::alloc::AllocError;
 
 /// A marker that stands in no library.
 #[derive(Clone, Copy, Debug)]
@@ -25,12 +25,37 @@ impl GcRef for Small {
     const KIND: VMGcKind = VMGcKind::AnyRef;
 }
 
+/// Writes what a call answers: what it did, or why it was refused.
+pub(crate) fn show_answer<T: Drop>(
+    call: &str,
+    done: &str,
+    answer: Result<T, RootFault>,
+    out: &mut String,
+) -> Result<(), AllocError> {
+    match answer {
+        Ok(_) => writeln!(out, "{call}: {done}"),
+        Err(fault) => writeln!(out, "{call}: {fault}"),
+    }
+}
+
+/// Writes whether a call tells that two are the same, or why it was refused.
+fn show_compared(
+    call: &str,
+    answer: Result<bool, RootFault>,
+    out: &mut String,
+) -> Result<(), AllocError> {
+    match answer {
+        Ok(same) => writeln!(out, "{call}: {same}"),
+        Err(fault) => writeln!(out, "{call}: {fault}"),
+    }
+}
+
 /// Writes why handles are refused that name nothing of the store.
-pub(crate) fn run_unnamed<H: GcHeap, W: Write + Drop>(
+pub(crate) fn run_unnamed<H: GcHeap>(
     store: &Store<H, u64>,
     stranger: &Store<H, u64>,
-    out: &mut W,
-) -> Result<(), CaseFault> {
+    out: &mut String,
+) -> Result<(), AllocError> {
     let cases = [
         (store.id(), RootSlot::Scoped(0)),
         (store.id(), RootSlot::Scoped(u32::MAX)),
@@ -44,14 +69,8 @@ pub(crate) fn run_unnamed<H: GcHeap, W: Write + Drop>(
             generation: 0,
             slot,
         };
-        match store.object(handle) {
-            Ok(_) => writeln!(out, "object: found")?,
-            Err(fault) => writeln!(out, "object: {fault}")?,
-        }
-        match store.index_eq(handle, handle) {
-            Ok(same) => writeln!(out, "index_eq: {same}")?,
-            Err(fault) => writeln!(out, "index_eq: {fault}")?,
-        }
+        show_answer("object", "found", store.object(handle), out)?;
+        show_compared("index_eq", store.index_eq(handle, handle), out)?;
     }
     Ok(())
 }
@@ -62,90 +81,110 @@ fn push<H: GcHeap>(store: &mut Store<H, u64>, value: u32) -> Result<Rooted<Small
     Rooted::from_index(store, index)?.ok_or(CaseFault::NotMarked)
 }
 
-/// Writes whether two handles name the same reference.
-fn show_same<H: GcHeap, W: Write + Drop>(
-    store: &Store<H, u64>,
-    left: &Rooted<Small>,
-    right: &Rooted<Small>,
-    out: &mut W,
-) -> Result<(), CaseFault> {
-    match ref_eq(store, left, right) {
-        Ok(same) => writeln!(out, "ref_eq: {same}")?,
-        Err(fault) => writeln!(out, "ref_eq: {fault}")?,
-    }
-    Ok(())
+/// Three marked handles, of which two name the same number.
+#[derive(Clone, Copy)]
+struct Marked {
+    five: Rooted<Small>,
+    again: Rooted<Small>,
+    six: Rooted<Small>,
+}
+
+/// Writes which of the handles are of the same root.
+fn show_roots(marked: Marked, out: &mut String) -> Result<(), AllocError> {
+    let five = marked.five;
+    let cast = Rooted::rooted_eq(five, five.cast());
+    let other = Rooted::rooted_eq(five, marked.again);
+    let index = five.root_index() == five.root_index();
+    writeln!(
+        out,
+        "rooted_eq: {cast}\nrooted_eq: {other}\nroot_index: {index}"
+    )
+}
+
+/// Writes which of the handles name the same reference, here and in another store, and once their roots are gone.
+fn show_marked<H: GcHeap>(
+    store: &mut Store<H, u64>,
+    stranger: &Store<H, u64>,
+    marked: Marked,
+    out: &mut String,
+) -> Result<(), AllocError> {
+    let Marked { five, again, six } = marked;
+    show_compared("ref_eq", ref_eq(store, &five, &again), out)?;
+    show_compared("ref_eq", ref_eq(store, &five, &six), out)?;
+    show_compared("ref_eq", ref_eq(stranger, &five, &again), out)?;
+    store.exit_gc_lifo_scope(0);
+    show_compared("ref_eq", ref_eq(store, &five, &again), out)
 }
 
 /// Marked handles name what their roots name, as long as these stand.
-pub(crate) fn run_marked<H: GcHeap, W: Write + Drop>(
+pub(crate) fn run_marked<H: GcHeap>(
     store: &mut Store<H, u64>,
     stranger: &Store<H, u64>,
-    out: &mut W,
+    out: &mut String,
 ) -> Result<(), CaseFault> {
-    let five = push(store, 5)?;
-    let again = push(store, 5)?;
-    let six = push(store, 6)?;
-    writeln!(out, "rooted_eq: {}", Rooted::rooted_eq(five, five.cast()))?;
-    writeln!(out, "rooted_eq: {}", Rooted::rooted_eq(five, again))?;
-    writeln!(
-        out,
-        "root_index: {}",
-        five.root_index() == five.root_index()
-    )?;
-    show_same(store, &five, &again, out)?;
-    show_same(store, &five, &six, out)?;
-    show_same(stranger, &five, &again, out)?;
-    store.exit_gc_lifo_scope(0);
-    show_same(store, &five, &again, out)
+    let marked = Marked {
+        five: push(store, 5)?,
+        again: push(store, 5)?,
+        six: push(store, 6)?,
+    };
+    show_roots(marked, out)?;
+    Ok(show_marked(store, stranger, marked, out)?)
 }
 
 /// Gives a handle of an owned root up, and writes whether the store took it back.
-fn give_up<H: GcHeap, W: Write + Drop>(
+fn give_up<H: GcHeap>(
     store: &mut Store<H, u64>,
     owned: OwnedRooted<Small>,
-    out: &mut W,
-) -> Result<(), CaseFault> {
+    out: &mut String,
+) -> Result<(), AllocError> {
     match owned.unroot(store) {
-        Ok(()) => writeln!(out, "unroot: given up")?,
-        Err(_) => writeln!(out, "unroot: handed back")?,
+        Ok(()) => out.push_str("unroot: given up\n"),
+        Err(_) => out.push_str("unroot: handed back\n"),
     }
-    Ok(())
 }
 
-/// Pushes a scoped root for what an owned handle names, and writes the answer.
-fn show_rooted<H: GcHeap, W: Write + Drop>(
+/// Gives a handle to another store, and to its own where that hands it back.
+fn give_away<H: GcHeap>(
     store: &mut Store<H, u64>,
-    owned: &OwnedRooted<Small>,
-    out: &mut W,
-) -> Result<(), CaseFault> {
-    match owned.to_rooted(store) {
-        Ok(_) => writeln!(out, "to_rooted: pushed")?,
-        Err(fault) => writeln!(out, "to_rooted: {fault}")?,
+    stranger: &mut Store<H, u64>,
+    owned: OwnedRooted<Small>,
+    out: &mut String,
+) -> Result<(), AllocError> {
+    match owned.unroot(stranger) {
+        Ok(()) => out.push_str("unroot: given up\n"),
+        Err(back) => {
+            out.push_str("unroot: handed back\n")?;
+            give_up(store, back, out)
+        }
     }
-    Ok(())
+}
+
+/// Gives both handles of an owned root up, the second one by way of another store.
+fn give_both<H: GcHeap>(
+    store: &mut Store<H, u64>,
+    stranger: &mut Store<H, u64>,
+    first: OwnedRooted<Small>,
+    second: OwnedRooted<Small>,
+    out: &mut String,
+) -> Result<(), AllocError> {
+    give_up(store, first, out)?;
+    show_answer("to_rooted", "pushed", second.to_rooted(store), out)?;
+    give_away(store, stranger, second, out)
 }
 
 /// An owned root outlives its scope and a collection, until the last of its handles is given up; another store hands
 /// such a handle back.
-pub(crate) fn run_owned<H: GcHeap, W: Write + Drop>(
+pub(crate) fn run_owned<H: GcHeap>(
     store: &mut Store<H, u64>,
     stranger: &mut Store<H, u64>,
-    out: &mut W,
+    out: &mut String,
 ) -> Result<(), CaseFault> {
     let rooted = push(store, 9)?;
     let first = rooted.to_owned_rooted(store)?;
     let second = first.clone_in(store)?;
     store.exit_gc_lifo_scope(0);
     store.gc();
-    give_up(store, first, out)?;
-    show_rooted(store, &second, out)?;
-    match second.unroot(stranger) {
-        Ok(()) => writeln!(out, "unroot: given up")?,
-        Err(back) => {
-            writeln!(out, "unroot: handed back")?;
-            give_up(store, back, out)?;
-        }
-    }
+    give_both(store, stranger, first, second, out)?;
     store.exit_gc_lifo_scope(0);
     Ok(())
 }

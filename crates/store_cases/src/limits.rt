@@ -1,9 +1,9 @@
 //! Configurations, ids, and limiters.
 
-use crate::fault::CaseFault;
-use gc_store::{Engine, HeapConfig, PageLimit, ResourceLimiter, Scripted, should_collect_first};
-use std::alloc::Global;
-use std::io::Write;
+use gc_store::{
+    Engine, HeapConfig, PageLimit, ResourceLimiter, Scripted, StoreId, should_collect_first,
+};
+use std::alloc::{AllocError, Global};
 
 /// The most roots of a kind that a configuration takes.
 const MOST_ROOTS: u32 = 0x8000_0000;
@@ -12,7 +12,7 @@ const MOST_ROOTS: u32 = 0x8000_0000;
 const MOST_PAGES: u32 = 65_535;
 
 /// Writes which configurations there are.
-pub(crate) fn run_configurations<W: Write + Drop>(out: &mut W) -> Result<(), CaseFault> {
+pub(crate) fn run_configurations(out: &mut String) -> Result<(), AllocError> {
     let cases = [
         (MOST_PAGES, MOST_ROOTS, MOST_ROOTS),
         (0, 0, 0),
@@ -31,43 +31,48 @@ pub(crate) fn run_configurations<W: Write + Drop>(out: &mut W) -> Result<(), Cas
     Ok(())
 }
 
+/// Writes an id.
+fn show_id(id: Option<StoreId>, out: &mut String) -> Result<(), AllocError> {
+    match id {
+        Some(id) => writeln!(out, "store {} of engine {}", id.number, id.engine),
+        None => out.push_str("no store\n"),
+    }
+}
+
 /// Writes the first ids of an engine.
-pub(crate) fn run_ids<W: Write + Drop>(out: &mut W) -> Result<(), CaseFault> {
+pub(crate) fn run_ids(out: &mut String) -> Result<(), AllocError> {
     let mut engine = Engine::new(7);
     for _ in 0..2 {
-        let id = engine.next_store_id().ok_or(CaseFault::NoStore)?;
-        writeln!(out, "store {} of engine {}", id.number, id.engine)?;
+        show_id(engine.next_store_id(), out)?;
     }
     Ok(())
 }
 
 /// Asks a limiter, and writes its answer.
-fn ask<L: ResourceLimiter, W: Write + Drop>(
+fn ask<L: ResourceLimiter>(
     limiter: &mut L,
     from: u32,
     to: u32,
-    out: &mut W,
-) -> Result<(), CaseFault> {
+    out: &mut String,
+) -> Result<(), AllocError> {
     let granted = limiter.growing(from, to);
-    writeln!(out, "growing {from} {to}: {granted}")?;
-    Ok(())
+    writeln!(out, "growing {from} {to}: {granted}")
 }
 
 /// Writes what a limiter refused.
-fn show_refusals<W: Write + Drop>(
+fn show_refusals(
     refusals: u64,
     last: Option<(u32, u32)>,
-    out: &mut W,
-) -> Result<(), CaseFault> {
+    out: &mut String,
+) -> Result<(), AllocError> {
     match last {
-        Some((from, to)) => writeln!(out, "refusals {refusals}, last {from} {to}")?,
-        None => writeln!(out, "refusals {refusals}")?,
+        Some((from, to)) => writeln!(out, "refusals {refusals}, last {from} {to}"),
+        None => writeln!(out, "refusals {refusals}"),
     }
-    Ok(())
 }
 
 /// A limiter of pages counts what it refuses.
-pub(crate) fn run_page_limit<W: Write + Drop>(out: &mut W) -> Result<(), CaseFault> {
+pub(crate) fn run_page_limit(out: &mut String) -> Result<(), AllocError> {
     let mut limiter = PageLimit::new(3);
     for (from, to) in [(0, 3), (0, 4), (2, 3), (3, 9)] {
         ask(&mut limiter, from, to, out)?;
@@ -77,17 +82,22 @@ pub(crate) fn run_page_limit<W: Write + Drop>(out: &mut W) -> Result<(), CaseFau
 }
 
 /// A limiter by a list answers in order, and true after the last.
-pub(crate) fn run_scripted<W: Write + Drop>(alloc: Global, out: &mut W) -> Result<(), CaseFault> {
+pub(crate) fn run_scripted(alloc: Global, out: &mut String) -> Result<(), AllocError> {
     let mut limiter = Scripted::new(vec![in alloc; false, true, false]?);
+    ask_scripted(&mut limiter, out)
+}
+
+/// Asks a limiter by a list more often than the list is long.
+fn ask_scripted(limiter: &mut Scripted, out: &mut String) -> Result<(), AllocError> {
     for (from, to) in [(0, 1), (0, 2), (2, 4), (4, 9), (9, 9)] {
-        ask(&mut limiter, from, to, out)?;
+        ask(limiter, from, to, out)?;
         show_refusals(limiter.refusals(), limiter.last_refused(), out)?;
     }
     Ok(())
 }
 
 /// Writes whether an allocation that finds no room collects before it grows.
-pub(crate) fn run_firsts<W: Write + Drop>(out: &mut W) -> Result<(), CaseFault> {
+pub(crate) fn run_firsts(out: &mut String) -> Result<(), AllocError> {
     let most = isize::MAX as usize;
     let cases = [
         (0, 0, 0),

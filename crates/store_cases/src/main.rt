@@ -11,6 +11,9 @@ mod limits;
 mod pending;
 mod roots;
 
+ghost use Rattle.std.specs.Prelude.{◌≡◌};
+ghost use Rattle.gc_view.specs.Heaps.{detached};
+
 use crate::fault::CaseFault;
 use crate::growth::run_growth;
 use crate::handles::{run_marked, run_owned, run_unnamed};
@@ -22,9 +25,7 @@ use gc_copying::CopyingHeap;
 use gc_drc::DrcHeap;
 use gc_heap::{GcHeap, NullHeap};
 use gc_store::{HeapConfig, PageLimit, Store, StoreId};
-use std::alloc::Global;
-use std::io;
-use std::io::{BufWriter, Write};
+use std::alloc::{AllocError, Global};
 
 /// The most scoped roots of a store here.
 const MAX_SCOPED: u32 = 4;
@@ -45,7 +46,7 @@ const STRANGER: StoreId = StoreId {
 };
 
 /// Writes what needs no store.
-fn run_alone<W: Write + Drop>(alloc: Global, out: &mut W) -> Result<(), CaseFault> {
+fn run_alone(alloc: Global, out: &mut String) -> Result<(), AllocError> {
     run_configurations(out)?;
     run_ids(out)?;
     run_page_limit(out)?;
@@ -53,70 +54,99 @@ fn run_alone<W: Write + Drop>(alloc: Global, out: &mut W) -> Result<(), CaseFaul
     run_firsts(out)
 }
 
-/// Runs all cases on a store, with another one whose handles are none of its own.
-fn run_cases<H: GcHeap, W: Write + Drop>(
+/// Runs the cases of handles that need no host value.
+fn run_handles<H: GcHeap>(
     alloc: Global,
     store: &mut Store<H, u64>,
     stranger: &mut Store<H, u64>,
-    out: &mut W,
+    out: &mut String,
 ) -> Result<(), CaseFault> {
     run_growth(alloc, store, out)?;
-    let mut limiter = PageLimit::new(MAX_PAGES);
     run_unnamed(store, stranger, out)?;
     run_marked(store, stranger, out)?;
-    run_owned(store, stranger, out)?;
-    run_hosts(store, &mut limiter, out)?;
-    run_strangers(store, stranger, &mut limiter, out)?;
-    run_stale_hosts(store, &mut limiter, out)?;
+    run_owned(store, stranger, out)
+}
+
+/// Runs the cases of host values.
+fn run_values<H: GcHeap>(
+    store: &mut Store<H, u64>,
+    stranger: &mut Store<H, u64>,
+    limiter: &mut PageLimit,
+    out: &mut String,
+) -> Result<(), CaseFault> {
+    run_hosts(store, limiter, out)?;
+    run_strangers(store, stranger, limiter, out)?;
+    run_stale_hosts(store, limiter, out)
+}
+
+/// Runs all cases on a store, with another one whose handles are none of its own.
+fn run_cases<H: GcHeap>(
+    alloc: Global,
+    store: &mut Store<H, u64>,
+    stranger: &mut Store<H, u64>,
+    out: &mut String,
+) -> Result<(), CaseFault> {
+    let mut limiter = PageLimit::new(MAX_PAGES);
+    run_handles(alloc, store, stranger, out)?;
+    run_values(store, stranger, &mut limiter, out)?;
     run_pending(alloc, store, &mut limiter, out)?;
     run_scopes(store, out)?;
     run_roots(store, out)
 }
 
-/// Runs all cases over null heaps.
-fn run_null<W: Write + Drop>(
+/// Runs all cases over these heaps.
+fn run_over<H: GcHeap + Drop>(
     alloc: Global,
     config: HeapConfig,
-    out: &mut W,
-) -> Result<(), CaseFault> {
-    writeln!(out, "== null")?;
-    let mut store = Store::new(alloc, STORE, NullHeap::new(alloc), config)?;
-    let mut stranger = Store::new(alloc, STRANGER, NullHeap::new(alloc), config)?;
+    heap: H,
+    other: H,
+    out: &mut String,
+) -> Result<(), CaseFault>
+    requires sound { H.sound heap }
+    requires empty { H.seen heap ≡ detached }
+    requires other_sound { H.sound other }
+    requires other_empty { H.seen other ≡ detached }
+{
+    let mut stranger = Store::new(alloc, STRANGER, other, config)?;
+    let mut store = Store::new(alloc, STORE, heap, config)?;
     run_cases(alloc, &mut store, &mut stranger, out)
 }
 
-/// Runs all cases over counting heaps.
-fn run_counting<W: Write + Drop>(
-    alloc: Global,
-    config: HeapConfig,
-    out: &mut W,
-) -> Result<(), CaseFault> {
-    writeln!(out, "== counting")?;
-    let mut store = Store::new(alloc, STORE, DrcHeap::new(alloc), config)?;
-    let mut stranger = Store::new(alloc, STRANGER, DrcHeap::new(alloc), config)?;
-    run_cases(alloc, &mut store, &mut stranger, out)
+/// Runs all cases over heaps of each kind.
+fn run_kinds(alloc: Global, config: HeapConfig, out: &mut String) -> Result<(), CaseFault> {
+    out.push_str("== null\n")?;
+    run_over(
+        alloc,
+        config,
+        NullHeap::new(alloc),
+        NullHeap::new(alloc),
+        out,
+    )?;
+    out.push_str("== counting\n")?;
+    run_over(alloc, config, DrcHeap::new(alloc), DrcHeap::new(alloc), out)?;
+    out.push_str("== copying\n")?;
+    run_over(
+        alloc,
+        config,
+        CopyingHeap::new(alloc),
+        CopyingHeap::new(alloc),
+        out,
+    )
 }
 
-/// Runs all cases over copying heaps.
-fn run_copying<W: Write + Drop>(
-    alloc: Global,
-    config: HeapConfig,
-    out: &mut W,
-) -> Result<(), CaseFault> {
-    writeln!(out, "== copying")?;
-    let mut store = Store::new(alloc, STORE, CopyingHeap::new(alloc), config)?;
-    let mut stranger = Store::new(alloc, STRANGER, CopyingHeap::new(alloc), config)?;
-    run_cases(alloc, &mut store, &mut stranger, out)
+/// What must be printed.
+fn answers(alloc: Global) -> Result<String, CaseFault> {
+    let Some(config) = HeapConfig::new(1, MAX_SCOPED, MAX_SCOPED, None) else {
+        return Err(CaseFault::NoStore);
+    };
+    let mut out = String::new(alloc);
+    run_alone(alloc, &mut out)?;
+    run_kinds(alloc, config, &mut out)?;
+    Ok(out)
 }
 
 fn main(rt: HostRuntime) -> Result<(), CaseFault> {
-    let alloc = rt.alloc();
-    let mut out = BufWriter::new(alloc, io::writer(&rt))?;
-    run_alone(alloc, &mut out)?;
-    let config = HeapConfig::new(1, MAX_SCOPED, MAX_SCOPED, None).ok_or(CaseFault::NoStore)?;
-    run_null(alloc, config, &mut out)?;
-    run_counting(alloc, config, &mut out)?;
-    run_copying(alloc, config, &mut out)?;
-    out.flush()?;
+    let shown = answers(rt.alloc())?;
+    print!(rt; "{shown}")?;
     Ok(())
 }

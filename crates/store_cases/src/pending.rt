@@ -4,14 +4,40 @@ use crate::fault::CaseFault;
 use gc_heap::GcHeap;
 use gc_script::{Runner, parse_line};
 use gc_store::{PageLimit, Store};
-use std::alloc::Global;
-use std::io::Write;
+use std::alloc::{AllocError, Global};
 
 /// A script that throws an exception.
 const THROW: &str = "exn\nnewexn 0 0 7\nthrow 0";
 
 /// A script that takes it.
 const TAKE: &str = "take 1";
+
+/// Runs the command of a line.
+fn run_line<H: GcHeap>(
+    alloc: Global,
+    runner: &mut Runner,
+    store: &mut Store<H, u64>,
+    limiter: &mut PageLimit,
+    line: &str,
+) -> Result<(), CaseFault> {
+    let command = parse_line(alloc, line.as_bytes())?;
+    runner.run_one(store, limiter, &command)?;
+    Ok(())
+}
+
+/// Runs the commands of a script by a runner.
+fn run_lines<H: GcHeap>(
+    alloc: Global,
+    runner: &mut Runner,
+    store: &mut Store<H, u64>,
+    limiter: &mut PageLimit,
+    script: &str,
+) -> Result<(), CaseFault> {
+    for line in script.lines() {
+        run_line(alloc, runner, store, limiter, line)?;
+    }
+    Ok(())
+}
 
 /// Runs the commands of a script.
 fn run<H: GcHeap>(
@@ -21,37 +47,29 @@ fn run<H: GcHeap>(
     script: &str,
 ) -> Result<(), CaseFault> {
     let mut runner = Runner::new(alloc);
-    for line in script.lines() {
-        let command = parse_line(alloc, line.as_bytes())?;
-        runner.run_one(store, limiter, &command)?;
-    }
-    Ok(())
+    run_lines(alloc, &mut runner, store, limiter, script)
 }
 
 /// Writes what is pending.
-fn show<H: GcHeap, W: Write + Drop>(store: &Store<H, u64>, out: &mut W) -> Result<(), CaseFault> {
-    writeln!(
-        out,
-        "has_pending_exception: {}",
-        store.has_pending_exception()
-    )?;
+fn show<H: GcHeap>(store: &Store<H, u64>, out: &mut String) -> Result<(), AllocError> {
+    let is_pending = store.has_pending_exception();
+    writeln!(out, "has_pending_exception: {is_pending}")?;
     match store.pending_exception_tag_and_instance() {
-        Some(tag) => writeln!(out, "pending: {} {}", tag.instance, tag.index)?,
-        None => writeln!(out, "pending: none")?,
+        Some(tag) => writeln!(out, "pending: {} {}", tag.instance, tag.index),
+        None => out.push_str("pending: none\n"),
     }
-    Ok(())
 }
 
 /// An exception is thrown, shown, and taken.
-pub(crate) fn run_pending<H: GcHeap, W: Write + Drop>(
+pub(crate) fn run_pending<H: GcHeap>(
     alloc: Global,
     store: &mut Store<H, u64>,
     limiter: &mut PageLimit,
-    out: &mut W,
+    out: &mut String,
 ) -> Result<(), CaseFault> {
     show(store, out)?;
     run(alloc, store, limiter, THROW)?;
     show(store, out)?;
     run(alloc, store, limiter, TAKE)?;
-    show(store, out)
+    Ok(show(store, out)?)
 }

@@ -1,76 +1,97 @@
 //! Scopes that end by themselves, room that is made in advance, and the roots by their numbers.
 
 use crate::fault::CaseFault;
+use crate::handles::show_answer;
 use gc_heap::GcHeap;
 use gc_refs::I31;
 use gc_rooted::RootScope;
-use gc_store::{GcClass, RootAt, Store};
-use std::io::Write;
+use gc_store::{GcClass, RootAt, RootName, Store};
+use std::alloc::AllocError;
 
-/// Pushes a root for a small integer in a scope, and writes the answer.
-fn show_push<H: GcHeap, W: Write + Drop>(
-    scope: &mut RootScope<'_, H, u64>,
+/// Pushes a root for a small integer, and writes the answer.
+fn show_push<H: GcHeap>(
+    store: &mut Store<H, u64>,
     value: u32,
-    out: &mut W,
-) -> Result<(), CaseFault> {
-    match scope.store().push_i31(I31::wrapping_u32(value)) {
-        Ok(_) => writeln!(out, "push_i31: pushed")?,
-        Err(fault) => writeln!(out, "push_i31: {fault}")?,
+    out: &mut String,
+) -> Result<(), AllocError> {
+    let answer = store.push_i31(I31::wrapping_u32(value));
+    show_answer("push_i31", "pushed", answer, out)
+}
+
+/// Writes how many roots there are.
+fn show_roots<H: GcHeap>(store: &mut Store<H, u64>, out: &mut String) -> Result<(), AllocError> {
+    let roots = store.enter_gc_lifo_scope();
+    writeln!(out, "roots: {roots}")
+}
+
+/// Pushes three roots, and writes how many there are.
+fn show_three<H: GcHeap>(store: &mut Store<H, u64>, out: &mut String) -> Result<(), AllocError> {
+    for value in 7..10 {
+        show_push(store, value, out)?;
     }
-    Ok(())
+    show_roots(store, out)
 }
 
 /// Three roots where two more may be made, in a scope that has room for them.
-fn push_three<H: GcHeap, W: Write + Drop>(
-    store: &mut Store<H, u64>,
-    out: &mut W,
-) -> Result<(), CaseFault> {
+fn push_three<H: GcHeap>(store: &mut Store<H, u64>, out: &mut String) -> Result<(), CaseFault> {
     let mut scope = RootScope::new(store);
     scope.reserve(2)?;
-    show_push(&mut scope, 7, out)?;
-    show_push(&mut scope, 8, out)?;
-    show_push(&mut scope, 9, out)?;
-    writeln!(out, "roots: {}", scope.store().enter_gc_lifo_scope())?;
-    Ok(())
+    Ok(show_three(scope.store(), out)?)
 }
 
 /// A scope ends with its roots, and those before it stay.
-pub(crate) fn run_scopes<H: GcHeap, W: Write + Drop>(
+pub(crate) fn run_scopes<H: GcHeap>(
     store: &mut Store<H, u64>,
-    out: &mut W,
+    out: &mut String,
 ) -> Result<(), CaseFault> {
     store.exit_gc_lifo_scope(0);
     let five = store.push_i31(I31::wrapping_u32(5))?;
     store.push_i31(I31::wrapping_u32(6))?;
     push_three(store, out)?;
-    writeln!(out, "roots: {}", store.enter_gc_lifo_scope())?;
-    writeln!(out, "word: {}", store.word(five)?)?;
-    Ok(())
+    show_roots(store, out)?;
+    let word = store.word(five)?;
+    Ok(writeln!(out, "word: {word}")?)
+}
+
+/// Writes the name of a root by its number.
+fn show_name(number: u64, name: Option<RootName>, out: &mut String) -> Result<(), AllocError> {
+    match name {
+        Some(name) => write!(out, "root {number}: {name:?}, "),
+        None => write!(out, "root {number}: no name, "),
+    }
+}
+
+/// Writes what a root names by its number.
+fn show_named<H: GcHeap>(
+    store: &mut Store<H, u64>,
+    number: u64,
+    out: &mut String,
+) -> Result<(), CaseFault> {
+    match store.root_at(number)? {
+        RootAt::End => Ok(out.push_str("end\n")?),
+        RootAt::Null => Ok(out.push_str("null\n")?),
+        RootAt::Root(_, handle) => {
+            let word = store.word(handle)?;
+            Ok(writeln!(out, "word {word}")?)
+        }
+    }
 }
 
 /// Writes the name of a root by its number, and what it names.
-fn show_root<H: GcHeap, W: Write + Drop>(
+fn show_root<H: GcHeap>(
     store: &mut Store<H, u64>,
     number: u64,
-    out: &mut W,
+    out: &mut String,
 ) -> Result<(), CaseFault> {
     let mut scope = RootScope::new(store);
-    match scope.store().root_name(number) {
-        Some(name) => write!(out, "root {number}: {name:?}, ")?,
-        None => write!(out, "root {number}: no name, ")?,
-    }
-    match scope.store().root_at(number)? {
-        RootAt::End => writeln!(out, "end")?,
-        RootAt::Null => writeln!(out, "null")?,
-        RootAt::Root(_, handle) => writeln!(out, "word {}", scope.store().word(handle)?)?,
-    }
-    Ok(())
+    show_name(number, scope.store().root_name(number), out)?;
+    show_named(scope.store(), number, out)
 }
 
 /// Roots of each kind but owned ones, by their numbers.
-pub(crate) fn run_roots<H: GcHeap, W: Write + Drop>(
+pub(crate) fn run_roots<H: GcHeap>(
     store: &mut Store<H, u64>,
-    out: &mut W,
+    out: &mut String,
 ) -> Result<(), CaseFault> {
     store.gc();
     store.exit_gc_lifo_scope(0);

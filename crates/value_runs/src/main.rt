@@ -1,102 +1,89 @@
 //! The values of a struct, of an array and of an exception, read one by one, references as raw words, hashes, subtypes that are
-//! asked of, handles of wider types, and texts, over a heap of each kind, with what the calls answer printed.
+//! asked of, handles of wider types, and texts; collections that are done in increments, and dropped after some; and paths in small
+//! stores; each over a heap of each kind, with what the calls answer printed.
 //!
-//! What must be printed, in `stdout`, was worked out by hand from the rules in docs/.
+//! What must be printed, in `stdout`, was worked out from the rules in docs/: by hand, but that of collections by another program.
 #![tactic(auto)]
 
 mod asked;
+mod entries;
+mod graphs;
 mod hashes;
+mod parts;
 mod raw;
 mod read;
 mod refused;
+mod rounds;
 mod setup;
+mod steps;
 mod texts;
 mod types;
 mod words;
 
-ghost use Rattle.std.specs.Prelude.{◌≡◌};
-ghost use Rattle.gc_view.specs.Heaps.{detached};
-
-use crate::asked::run_asked;
-use crate::hashes::run_owned_hashes;
-use crate::raw::{run_owned_word, run_pushed, run_words};
-use crate::read::{run_array, run_exception, run_struct};
-use crate::refused::{run_foreign, run_given_up, run_left};
-use crate::setup::declare_types;
-use crate::texts::{run_refused, run_texts, run_traced};
-use crate::types::{run_bound, run_subtypes, run_wide};
-use crate::words::{run_numbers, run_or_null, run_owned, run_references};
-use gc_copying::CopyingHeap;
-use gc_drc::DrcHeap;
-use gc_heap::{GcHeap, NullHeap};
-use gc_store::{HeapConfig, Store, StoreId};
-use run_faults::{Result, RunFault};
+use crate::parts::{Part, run_on};
+use crate::texts::run_traced;
+use gc_types::Layouts;
+use run_faults::Result;
 use std::alloc::Global;
 
-/// The id of each store.
-const STORE: StoreId = StoreId {
-    engine: 3,
-    number: 5,
-};
-
-/// Makes the calls that show words, hashes, types and texts: first those that take a heap not to be made, and to have no root.
-fn run_surface<H: GcHeap>(rt: &impl Print, store: &mut Store<H, u64>) -> Result<()> {
-    run_refused(rt, store)?;
-    run_texts(rt, store)?;
-    run_subtypes(rt, store)?;
-    run_words(rt, store)?;
-    run_owned_word(rt, store)?;
-    run_pushed(rt, store)?;
-    run_owned_hashes(rt, store)?;
-    run_wide(rt, store)?;
-    run_bound(rt, store)
+/// A step of the program.
+#[derive(Clone, Copy)]
+enum Step {
+    /// Prints a title.
+    Titles(&'static str),
+    /// Runs a part on a store over a heap of that kind.
+    Runs(Layouts, Part),
+    /// Shows where references lie, for which no store is needed.
+    Traces,
 }
 
-/// Makes the calls that read values, and store and load them as raw words.
-fn run_values<H: GcHeap>(rt: &impl Print, store: &mut Store<H, u64>) -> Result<()> {
-    run_struct(rt, store)?;
-    run_array(rt, store)?;
-    run_exception(rt, store)?;
-    run_references(rt, store)?;
-    run_owned(rt, store)?;
-    run_or_null(rt, store)?;
-    run_numbers(rt, store)?;
-    run_asked(rt, store)?;
-    run_left(rt, store)?;
-    run_foreign(rt, store)?;
-    run_given_up(rt, store)
-}
+/// The steps of the program.
+const STEPS: [Step; 30] = [
+    Step::Titles("= values"),
+    Step::Titles("== null"),
+    Step::Runs(Layouts::Null, Part::Values),
+    Step::Titles("== counting"),
+    Step::Runs(Layouts::Counting, Part::Values),
+    Step::Titles("== copying"),
+    Step::Runs(Layouts::Copying, Part::Values),
+    Step::Titles("== traced"),
+    Step::Traces,
+    Step::Titles("= collections"),
+    Step::Titles("== null"),
+    Step::Runs(Layouts::Null, Part::Rounds),
+    Step::Titles("== counting"),
+    Step::Runs(Layouts::Counting, Part::Rounds),
+    Step::Titles("== copying"),
+    Step::Runs(Layouts::Copying, Part::ManyRounds),
+    Step::Titles("== forgotten"),
+    Step::Runs(Layouts::Copying, Part::Forgotten),
+    Step::Titles("= paths"),
+    Step::Titles("== null"),
+    Step::Runs(Layouts::Null, Part::Chains),
+    Step::Runs(Layouts::Null, Part::Lengths),
+    Step::Titles("== counting"),
+    Step::Runs(Layouts::Counting, Part::Chains),
+    Step::Runs(Layouts::Counting, Part::Lengths),
+    Step::Titles("== copying"),
+    Step::Runs(Layouts::Copying, Part::Chains),
+    Step::Runs(Layouts::Copying, Part::Lengths),
+    Step::Titles("== few roots"),
+    Step::Runs(Layouts::Copying, Part::FewRoots),
+];
 
-/// Makes each call on a new store.
-fn run_calls<H: GcHeap>(rt: &impl Print, store: &mut Store<H, u64>) -> Result<()> {
-    declare_types(store)?;
-    run_surface(rt, store)?;
-    run_values(rt, store)
-}
-
-/// Makes each call on a store over that heap.
-fn run_over<H: GcHeap + Drop>(
-    rt: &impl Print,
-    alloc: Global,
-    heap: H,
-    config: HeapConfig,
-) -> Result<()>
-    requires sound { H.sound heap }
-    requires empty { H.seen heap ≡ detached }
-{
-    let mut store = Store::<H, u64>::new(alloc, STORE, heap, config)?;
-    run_calls(rt, &mut store)
+/// Does a step.
+fn do_step(rt: &impl Print, alloc: Global, step: Step) -> Result<()> {
+    match step {
+        Step::Titles(title) => Ok(println!(rt; "{title}")?),
+        Step::Runs(kind, part) => run_on(rt, alloc, kind, part),
+        Step::Traces => run_traced(rt, alloc),
+    }
 }
 
 fn main(rt: HostRuntime) -> Result<()> {
     let alloc = rt.alloc();
-    let config = HeapConfig::with_pages(1).ok_or(RunFault::NoConfiguration)?;
-    println!(&rt; "== null")?;
-    run_over(&rt, alloc, NullHeap::new(alloc), config)?;
-    println!(&rt; "== counting")?;
-    run_over(&rt, alloc, DrcHeap::new(alloc), config)?;
-    println!(&rt; "== copying")?;
-    run_over(&rt, alloc, CopyingHeap::new(alloc), config)?;
-    println!(&rt; "== traced")?;
-    run_traced(&rt, alloc)
+    for step in STEPS {
+        do_step(&rt, alloc, step)?;
+    }
+    Ok(())
 }

@@ -56,7 +56,8 @@ impl CountedSpace {
     fn scan_next(&mut self, types: &Types, reached: &mut MarkReached)
         requires can { CanScanNext types.now.declarations self.old reached.old.head reached.old.fresh }
         requires some { 0 < reached.old.head }
-        ensures scanned { (c : Context) (unscanned : List ℕ) → c.types ≡ types.now.declarations → Traces c unscanned self.old reached.old.head reached.old.fresh []
+        ensures scanned { (c : Context) (unscanned : List ℕ) → c.types ≡ types.now.declarations
+            → Traces c unscanned self.old reached.old.head reached.old.fresh []
             → (left : List ℕ) × (Traces c left self.new reached.new.head reached.new.fresh [] × (length left < length unscanned)) }
         ensures less { trace_left self.new reached.new.head < trace_left self.old reached.old.head }
     {
@@ -68,7 +69,8 @@ impl CountedSpace {
     /// Scans marked objects until none is left to be scanned.
     pub(crate) fn scan_all(&mut self, types: &Types, reached: &mut MarkReached)
         requires { CanScanNext types.now.declarations self.old reached.old.head reached.old.fresh }
-        ensures scanned { (c : Context) (unscanned : List ℕ) → c.types ≡ types.now.declarations → Traces c unscanned self.old reached.old.head reached.old.fresh []
+        ensures scanned { (c : Context) (unscanned : List ℕ) → c.types ≡ types.now.declarations
+            → Traces c unscanned self.old reached.old.head reached.old.fresh []
             → (left : List ℕ) × Traces c left self.new reached.new.head reached.new.fresh [] }
         ensures none { reached.new.head ≡ 0 }
     {

@@ -12,5 +12,5 @@ pub returns-clause-allocated : goal.returns-clause-allocated
 returns-clause-allocated c =
     let h = c.args.self.now in
     subst (λ b. (kind : VMGcKind) → IsOfKind kind c.args.header.kind_word
-    → Allocated Counting (counting_seen_of h.scopes b) (counting_seen_in h.scopes c.allocate.new.self) (made Counting kind c.args.header c.args.first c.args.size) c.args.size c.allocate.result) (sym c.in-Attached.is)
-    (c.allocate.ensures.allocated h.scopes)
+    → Allocated Counting (counting_seen_of h.scopes b) (counting_seen_in h.scopes c.allocate_counted.new.self) (made Counting kind c.args.header c.args.first c.args.size) c.args.size c.allocate_counted.result) (sym c.in-Attached.is)
+    (c.allocate_counted.ensures.allocated h.scopes)
