@@ -1,6 +1,6 @@
 //! Rows of cases, for programs that answer each: their words and numbers, and what a list of names makes of them.
 //!
-//! It promises no more than that each call ends; what a program prints of its rows is compared with what was worked out by hand.
+//! It promises which numbers and low bits a row has; what a program prints of its rows is compared with what was worked out by hand.
 #![tactic(auto)]
 
 mod answers;
