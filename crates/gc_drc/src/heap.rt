@@ -121,7 +121,8 @@ impl DrcHeap {
             (has_host trace.old.host_data_table.now.entries)) }
         ensures stepped { (s : Start) (n : ℕ) → CountingBetween s n self.old.scopes self.old.backing phase.old roots.now.roots trace.old.types.now.declarations
             (has_host trace.old.host_data_table.now.entries)
-            → Stepped Counting s (n + 1) result (CountingBetween s (n + 1) self.new.scopes self.new.backing phase.new roots.now.roots trace.old.types.now.declarations
+            → Stepped Counting s (n + 1) result (CountingBetween s (n + 1) self.new.scopes self.new.backing phase.new roots.now.roots
+            trace.old.types.now.declarations
             (has_host trace.new.host_data_table.now.entries))
             (IsDrcSound self.new × Collected Counting s (drc_seen self.new) roots.now.roots (has_host trace.new.host_data_table.now.entries)) }
         ensures less { result ≡ GcProgress.Continue → increments_left phase.new < increments_left phase.old }

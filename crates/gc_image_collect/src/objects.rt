@@ -194,7 +194,8 @@ pub(crate) fn take_objects<H: GcHeap>(
 ) -> Result<Vec<ObjectLine>, CollectFault>
     requires { IsImageBegun H.KIND store.old (found_handles found.old) }
     ensures takes { (b : Basis ℕ) (told : List ℕ) (start : ℕ) → ImageProgress H.KIND b told start store.old (found_handles found.old)
-        → AnswersImagePart H.KIND b (λ lines. HasAllLines H.KIND b told start store.new (found_handles found.new) lines.items) (ImagePassesRoom b start) result store.new }
+        → AnswersImagePart H.KIND b (λ lines. HasAllLines H.KIND b told start store.new (found_handles found.new) lines.items)
+        (ImagePassesRoom b start) result store.new }
     ensures same { IsSameStore store.old store.new }
 {
     let mut lines = Vec::new(alloc);

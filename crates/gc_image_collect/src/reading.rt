@@ -40,7 +40,8 @@ fn take_value<H: GcHeap>(
     requires { CanTakeImageValue ℕ H.KIND store.old (found_handles found.old) number index }
     ensures takes { (b : Basis ℕ) (told : List ℕ) (count : ℕ) (o : Object ℕ) (v : Value)
         → ImageProgress H.KIND b told count store.old (found_handles found.old) → IsNumberedObject b told number o → slice_get (object_values o) index ≡ Some v
-        → AnswersImagePart H.KIND b (λ x. ImageGoesOn H.KIND b told (count + present_in_value v) store.new (found_handles found.new) (λ then. SaysValue then v x))
+        → AnswersImagePart H.KIND b (λ x. ImageGoesOn H.KIND b told (count + present_in_value v) store.new (found_handles found.new)
+        (λ then. SaysValue then v x))
         (LacksRoots b.table (count + present_in_value v)) result store.new }
     ensures same { IsSameStore store.old store.new }
 {

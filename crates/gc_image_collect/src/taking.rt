@@ -53,7 +53,8 @@ pub(crate) fn take_reference<H: GcHeap>(
     requires { NamesLive ℕ H.KIND store.now (raw.Ref class handle) }
     ensures { (b : Basis ℕ) (told : List ℕ) (count : ℕ) (q : Reference) (progress : ImageProgress H.KIND b told count store.now (found_handles found.old))
         → HandleStands store.now progress.holds.now handle q → LeadsOn b (reference class q)
-        → AnswersImagePart H.KIND b (λ x. ImageGoesOn H.KIND b told count store.now (found_handles found.new) (λ then. SaysValue then (reference class q) x)) ⊥ result store.now }
+        → AnswersImagePart H.KIND b (λ x. ImageGoesOn H.KIND b told count store.now (found_handles found.new) (λ then. SaysValue then (reference class q) x))
+        ⊥ result store.now }
 {
     match handle {
         None => Ok(ImageValue::Ref(class, ImageReference::Null)),

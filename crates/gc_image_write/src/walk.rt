@@ -155,7 +155,8 @@ fn step(
     requires walks { IsWalk (early_named types.now.declarations objects.now) (waiting (walk_parts walk.old) frame) }
     ensures went { IfOk result (Went (early_named types.now.declarations objects.now) (waiting (walk_parts walk.old) frame) (walk_parts walk.new)) }
     ensures leads { IfOk result (λ went. went ≡ true
-        → FinishesAlike (early_named types.now.declarations objects.now) (value_count objects.now) (waiting (walk_parts walk.old) frame) (walk_parts walk.new)) }
+        → FinishesAlike (early_named types.now.declarations objects.now) (value_count objects.now)
+        (waiting (walk_parts walk.old) frame) (walk_parts walk.new)) }
 {
     if frame.next >= value_count(objects, frame.object) {
         close(walk, frame.object)?;

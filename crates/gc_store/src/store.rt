@@ -52,7 +52,8 @@ impl<H: GcHeap, D: Drop> Model for Store<H, D> {
 
     ghost view = { λ s. store_view s.id s.config (tables_of s.interned s.asked) s.owner.seen s.tries };
 
-    ghost invariant = { λ s. IsSoundStore D H.KIND s.slot_counts.items s.owner.seen (store_view s.id s.config (tables_of s.interned s.asked) s.owner.seen s.tries) };
+    ghost invariant = { λ s. IsSoundStore D H.KIND s.slot_counts.items s.owner.seen
+        (store_view s.id s.config (tables_of s.interned s.asked) s.owner.seen s.tries) };
 }
 
 impl<H: GcHeap + Drop, D: Drop> Store<H, D> {

@@ -65,7 +65,8 @@ fn insert<H: GcHeap, L: ResourceLimiter>(
     requires held { (m : IntMap) × HoldsProgress H.KIND (L.limits limiter.old).limit kit.now (progress_of store.old (L.limits limiter.old) filled m) }
     requires few { filled.refused ≤ max_inserts }
     ensures wants { OnErr result (HoldsWithin H.KIND (L.limits limiter.old).limit store.new) }
-    ensures goes { IfOk result (λ after. (m : IntMap) → HoldsProgress H.KIND (L.limits limiter.old).limit kit.now (progress_of store.old (L.limits limiter.old) filled m)
+    ensures goes { IfOk result (λ after. (m : IntMap)
+        → HoldsProgress H.KIND (L.limits limiter.old).limit kit.now (progress_of store.old (L.limits limiter.old) filled m)
         → InsertGoes H.KIND (L.limits limiter.old).limit kit.now key value (progress_of store.old (L.limits limiter.old) filled m) store.new
         (L.limits limiter.new) after) }
     ensures limit { (L.limits limiter.new).limit ≡ (L.limits limiter.old).limit }

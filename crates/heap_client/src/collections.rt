@@ -104,7 +104,8 @@ fn finish_after_one<H: GcHeap, D: Drop, L: Ledger>(
     requires name { blank.name ≡ L.name }
     requires parts { blank.parts ≡ L.parts }
     requires some { 0 < blank.parts }
-    requires begun { IsCollectionBegun H.under_way (stage heap.old state.old roots.old.roots trace.old.types.now.declarations trace.old.host_data_table.now.entries) }
+    requires begun { IsCollectionBegun H.under_way
+        (stage heap.old state.old roots.old.roots trace.old.types.now.declarations trace.old.host_data_table.now.entries) }
     ensures sound { H.sound heap.new }
     ensures collected { Finishes H.KIND H.under_way
         (stage heap.old state.old roots.old.roots trace.old.types.now.declarations trace.old.host_data_table.now.entries)
