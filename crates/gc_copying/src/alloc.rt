@@ -33,6 +33,7 @@ impl Space {
     }
 
     /// Allocates an object of `size` bytes with that header and first word, whose data is 0 behind it.
+    #[inline(always)]
     pub(crate) fn allocate(
         &mut self,
         header: VMGcHeader,

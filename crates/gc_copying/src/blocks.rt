@@ -46,6 +46,7 @@ fn block_size(size: u64) -> Option<u32>
 }
 
 /// Writes the header, the size and the zeroed data of a new object of `size` bytes at a place.
+#[inline(always)]
 fn write_block(memory: &mut HeapMemory, place: u32, header: VMGcHeader, size: u32)
     requires least { 16 ≤ size }
     requires room { place + size ≤ length memory.old }
@@ -62,6 +63,7 @@ fn write_block(memory: &mut HeapMemory, place: u32, header: VMGcHeader, size: u3
 
 impl Space {
     /// Whether an object of `size` bytes fits behind the last one.
+    #[inline(always)]
     pub(crate) fn room(&self, size: u64) -> Room
         requires sound { IsSoundSemiSpace self.now }
         requires positive { 0 < size }
@@ -80,6 +82,7 @@ impl Space {
     }
 
     /// Writes a new object of `size` bytes behind the last one, and answers its place.
+    #[inline(always)]
     pub(crate) fn write_object(&mut self, header: VMGcHeader, size: u32) -> VMGcRef
         requires { CanPlaceBehind self.old.memory self.old.bump self.old.objects size }
         ensures place { result ≡ self.old.bump }

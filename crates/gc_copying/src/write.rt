@@ -12,6 +12,7 @@ use gc_refs::VMGcRef;
 
 impl Space {
     /// Writes bytes at an offset of an object, in the part of it that its holder may write.
+    #[inline(always)]
     pub(crate) fn write_data(&mut self, gc_ref: &VMGcRef, offset: u32, bytes: &[u8])
         requires sound { IsSoundSemiSpace self.old }
         requires inside { IsWritable Copying (copying_seen_in 0 self.old) gc_ref.now offset (length bytes.now) }

@@ -18,6 +18,7 @@ const OWN_BITS: u32 = 8;
 
 impl CountedSpace {
     /// Writes bytes at an offset of an object, in the part of it that its holder may write.
+    #[inline(always)]
     pub(crate) fn write_data(&mut self, gc_ref: &VMGcRef, offset: u32, bytes: &[u8])
         requires sound { IsSoundSpace self.old }
         requires inside { IsWritable Counting (counting_seen_in 0 self.old) gc_ref.now offset (length bytes.now) }

@@ -17,6 +17,7 @@ use crate::heap::GcHeap;
 use gc_refs::{V128, VMGcObjectData, VMGcRef};
 
 /// Lends the bytes of a held object.
+#[inline(always)]
 fn data_of<'a, H: GcHeap>(heap: &'a H, gc_ref: &VMGcRef) -> VMGcObjectData<'a>
     requires sound { H.sound heap.now }
     requires held { IsHeld (H.seen heap.now) gc_ref.now }
@@ -44,6 +45,7 @@ pub fn read_u16<H: GcHeap>(heap: &H, gc_ref: &VMGcRef, offset: u32) -> u16
 }
 
 /// The 32-bit number at an offset of an object.
+#[inline(always)]
 pub fn read_u32<H: GcHeap>(heap: &H, gc_ref: &VMGcRef, offset: u32) -> u32
     requires sound { H.sound heap.now }
     requires inside { IsReadable H.KIND (H.seen heap.now) gc_ref.now offset 4 }
@@ -53,6 +55,7 @@ pub fn read_u32<H: GcHeap>(heap: &H, gc_ref: &VMGcRef, offset: u32) -> u32
 }
 
 /// The 64-bit number at an offset of an object.
+#[inline(always)]
 pub fn read_u64<H: GcHeap>(heap: &H, gc_ref: &VMGcRef, offset: u32) -> u64
     requires sound { H.sound heap.now }
     requires inside { IsReadable H.KIND (H.seen heap.now) gc_ref.now offset 8 }

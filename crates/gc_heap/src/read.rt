@@ -22,6 +22,7 @@ use gc_types::{Layouts, VMGcKind};
 use std::ops::Range;
 
 /// The size that the words at a place tell.
+#[inline(always)]
 fn told_size(memory: &HeapMemory, layouts: Layouts, place: u32) -> u32
     requires { place + struct_base layouts ≤ length memory.now }
     ensures { result ≡ told_size layouts memory.now place }
@@ -42,6 +43,7 @@ fn is_of_kind(header: VMGcHeader, kind: VMGcKind) -> bool
 }
 
 /// Where the bytes of an object lie. `BadRef` where they would not lie in the memory.
+#[inline(always)]
 pub fn object_range(
     memory: &HeapMemory,
     layouts: Layouts,
@@ -83,6 +85,7 @@ pub fn object_size(
 }
 
 /// The header of an object.
+#[inline(always)]
 pub fn header(
     memory: &HeapMemory,
     layouts: Layouts,
@@ -98,6 +101,7 @@ pub fn header(
 }
 
 /// Lends the bytes of an object for reading.
+#[inline(always)]
 pub fn object_data<'a>(
     memory: &'a HeapMemory,
     layouts: Layouts,

@@ -42,6 +42,7 @@ impl Model for HeapMemory {
 }
 
 /// The N bytes from an offset on, read as one.
+#[inline(always)]
 fn bytes_at<const N: usize>(bytes: &[u8], at: usize) -> [u8; N]
     requires { at + N ≤ length bytes.now }
     ensures { result ≡ take N (drop at bytes.now) }
@@ -53,6 +54,7 @@ fn bytes_at<const N: usize>(bytes: &[u8], at: usize) -> [u8; N]
 }
 
 /// The 32-bit number at an offset, its lowest byte first.
+#[inline(always)]
 fn word_at(bytes: &[u8], at: usize) -> u32
     requires { at + 4 ≤ length bytes.now }
     ensures { result ≡ u32_at bytes.now at }
@@ -168,6 +170,7 @@ impl HeapMemory {
     }
 
     /// Copies a block to another place.
+    #[inline(always)]
     fn copy_block(&mut self, from: usize, to: usize)
         requires source { from + 16 ≤ length self.old }
         requires destination { to + 16 ≤ length self.old }
@@ -179,6 +182,7 @@ impl HeapMemory {
     }
 
     /// Copies `count` bytes, in whole blocks, to a place that has none of them, in time linear in `count`.
+    #[inline(always)]
     pub fn copy_blocks(&mut self, from: usize, to: usize, count: usize)
         requires source { from + count ≤ length self.old }
         requires destination { to + count ≤ length self.old }
@@ -195,6 +199,7 @@ impl HeapMemory {
     }
 
     /// The 32-bit number at an offset, its lowest byte first.
+    #[inline(always)]
     pub fn read_u32(&self, at: usize) -> u32
         requires { at + 4 ≤ length self.now }
         ensures { result ≡ u32_at self.now at }
@@ -203,6 +208,7 @@ impl HeapMemory {
     }
 
     /// Writes a 32-bit number at an offset, its lowest byte first.
+    #[inline(always)]
     pub fn write_u32(&mut self, at: usize, value: u32)
         requires { at + 4 ≤ length self.old }
         ensures bytes { self.new ≡ put_u32 self.old at value }
@@ -212,6 +218,7 @@ impl HeapMemory {
     }
 
     /// The 64-bit number at an offset, its lowest byte first.
+    #[inline(always)]
     pub fn read_u64(&self, at: usize) -> u64
         requires { at + 8 ≤ length self.now }
         ensures { result ≡ u64_at self.now at }
@@ -229,6 +236,7 @@ impl HeapMemory {
     }
 
     /// The header that the two words at an offset are.
+    #[inline(always)]
     pub fn read_header(&self, at: usize) -> VMGcHeader
         requires { at + 8 ≤ length self.now }
         ensures { result ≡ record { kind_word = u32_at self.now at; type_word = u32_at self.now (at + 4) } }

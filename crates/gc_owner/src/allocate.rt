@@ -72,6 +72,7 @@ fn new_object<H: GcHeap>(
 
 /// Gives a new object its scoped root, which is the last one, or tells why there is none. The name that
 /// a counting heap counts for a new object is that of its root, so the heap is not told of another.
+#[inline(always)]
 fn root_new(
     roots: &mut Roots,
     made: Result<Result<VMGcRef, u64>, HeapFault>,

@@ -253,6 +253,7 @@ impl Roots {
     }
 
     /// Adds a scoped root, for which there is room, and answers its index.
+    #[inline(always)]
     pub(crate) fn push(&mut self, word: u32) -> u32
         requires room { 0 < self.old.spare }
         requires small { length self.old.scoped < 2 ^ 32 }

@@ -70,6 +70,7 @@ impl<H: GcHeap, D: Drop> HeapOwner<H, D> {
 
     /// Pushes a scoped root for a copy of a word, for which there is room, and answers its index. Null may
     /// be pushed too.
+    #[inline(always)]
     pub fn push(&mut self, word: u32) -> u32
         requires idle { self.old.seen.idle ≡ true }
         requires room { 0 < self.old.seen.roots.spare }

@@ -12,6 +12,7 @@ use gc_refs::VMGcRef;
 
 impl<H: GcHeap, D: Drop> HeapOwner<H, D> {
     /// Writes bytes to a held object, at an offset from its beginning, where no reference lies.
+    #[inline(always)]
     pub fn write_number(&mut self, holder: &VMGcRef, offset: u32, bytes: &[u8])
         requires idle { self.old.seen.idle ≡ true }
         requires inside { IsNumberPlace H.KIND self.old.seen holder.now offset (length bytes.now) }
@@ -22,6 +23,7 @@ impl<H: GcHeap, D: Drop> HeapOwner<H, D> {
 
     /// Overwrites a reference of a held object, at an offset from its beginning, with a copy of a word or
     /// with null, by the heap's barrier.
+    #[inline(always)]
     pub fn write_reference(&mut self, holder: &VMGcRef, offset: u32, word: u32)
         requires idle { self.old.seen.idle ≡ true }
         requires lies { IsReferencePlace H.KIND self.old.seen holder.now offset }

@@ -55,6 +55,7 @@ impl<'a> VMGcObjectData<'a> {
     }
 
     /// The 32-bit number at an offset; `BadOffset` exactly where one of its bytes isn't inside.
+    #[inline(always)]
     pub fn read_u32(&self, offset: u32) -> Result<u32, DataFault>
         ensures { ReadsNumber 4 (unsigned_at w32) 0 self.now offset result }
     {
@@ -62,6 +63,7 @@ impl<'a> VMGcObjectData<'a> {
     }
 
     /// The 64-bit number at an offset; `BadOffset` exactly where one of its bytes isn't inside.
+    #[inline(always)]
     pub fn read_u64(&self, offset: u32) -> Result<u64, DataFault>
         ensures { ReadsNumber 8 (unsigned_at w64) 0 self.now offset result }
     {

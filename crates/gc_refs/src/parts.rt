@@ -8,6 +8,7 @@ use crate::pod::PodValType;
 use std::ops::Range;
 
 /// Where the `count` bytes at an offset begin; `BadOffset` exactly where they aren't inside.
+#[inline(always)]
 pub(crate) fn place_of(
     first: u32,
     bytes: &[u8],
@@ -29,6 +30,7 @@ pub(crate) fn place_of(
 }
 
 /// The `len` bytes at an offset.
+#[inline(always)]
 pub(crate) fn part(first: u32, bytes: &[u8], offset: u32, len: u32) -> Result<&[u8], DataFault>
     ensures { LendsPart first bytes.now offset len result }
 {
@@ -40,6 +42,7 @@ pub(crate) fn part(first: u32, bytes: &[u8], offset: u32, len: u32) -> Result<&[
 }
 
 /// The number at an offset.
+#[inline(always)]
 pub(crate) fn read_pod<const N: usize, T: PodValType<N>>(
     first: u32,
     bytes: &[u8],

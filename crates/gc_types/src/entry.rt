@@ -51,6 +51,7 @@ impl StructFields {
         self.fields.as_slice()
     }
 
+    #[inline(always)]
     fn in_heap(&self, heap: Layouts) -> &ObjectLayout
         ensures { result.now ≡ object_layout false heap self.now }
     {
@@ -96,6 +97,7 @@ impl ExnParams {
         self.params.as_slice()
     }
 
+    #[inline(always)]
     fn in_heap(&self, heap: Layouts) -> &ObjectLayout
         ensures { result.now ≡ object_layout true heap (map constant_field self.now) }
     {
@@ -154,12 +156,14 @@ impl ArrayElem {
         }
     }
 
+    #[inline(always)]
     pub(crate) fn elem(&self) -> &FieldType
         ensures { result.now ≡ self.now }
     {
         &self.elem
     }
 
+    #[inline(always)]
     fn layout(&self, heap: Layouts) -> &GcArrayLayout
         ensures { result.now ≡ array_layout heap self.now }
     {
@@ -253,6 +257,7 @@ impl Declared {
         self.is_final
     }
 
+    #[inline(always)]
     pub(crate) fn kind(&self) -> TypeKind
         ensures { result ≡ shape_kind self.now.shape }
     {
@@ -265,6 +270,7 @@ impl Declared {
     }
 
     /// How many fields a struct or an exception has.
+    #[inline(always)]
     pub(crate) fn fields_len(&self) -> Option<usize>
         ensures { result ≡ option_map length (shape_fields self.now.shape) }
     {
@@ -276,6 +282,7 @@ impl Declared {
     }
 
     /// How many fields a struct has.
+    #[inline(always)]
     pub(crate) fn struct_len(&self) -> Option<usize>
         ensures { result ≡ option_map length (shape_struct_fields self.now.shape) }
     {
@@ -286,6 +293,7 @@ impl Declared {
     }
 
     /// That field of a struct or an exception.
+    #[inline(always)]
     pub(crate) fn field(&self, index: usize) -> Option<FieldType>
         ensures { result ≡ option_and_then (λ fields. slice_get fields index) (shape_fields self.now.shape) }
     {
@@ -300,6 +308,7 @@ impl Declared {
     }
 
     /// An array's element.
+    #[inline(always)]
     pub(crate) fn array_elem(&self) -> Option<FieldType>
         ensures { result ≡ shape_elem self.now.shape }
     {
@@ -310,6 +319,7 @@ impl Declared {
     }
 
     /// The layout of a struct or an exception.
+    #[inline(always)]
     pub(crate) fn struct_layout(&self, heap: Layouts) -> Option<&GcStructLayout>
         ensures { option_copied result ≡ shape_layout heap self.now.shape }
     {
@@ -321,6 +331,7 @@ impl Declared {
     }
 
     /// The layout of an array.
+    #[inline(always)]
     pub(crate) fn array_layout(&self, heap: Layouts) -> Option<&GcArrayLayout>
         ensures { option_copied result ≡ option_map (array_layout heap) (shape_elem self.now.shape) }
     {

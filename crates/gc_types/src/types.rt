@@ -240,6 +240,7 @@ impl Types {
     }
 
     /// What sort of type that is; None exactly where it isn't declared.
+    #[inline(always)]
     pub fn kind_of(&self, ty: VMSharedTypeIndex) -> Option<TypeKind>
         ensures { result ≡ kind_at self.now.declarations ty }
     {
@@ -310,6 +311,7 @@ impl Types {
     }
 
     /// How many fields the struct or exception type has; None exactly where the index names none.
+    #[inline(always)]
     pub fn fields_len(&self, ty: VMSharedTypeIndex) -> Option<usize>
         ensures { result ≡ option_map length (fields_at self.now.declarations ty) }
     {
@@ -318,6 +320,7 @@ impl Types {
     }
 
     /// How many fields the struct type has; None exactly where the index names no struct type.
+    #[inline(always)]
     pub fn struct_len(&self, ty: VMSharedTypeIndex) -> Option<usize>
         ensures { result ≡ option_map length (struct_fields_at self.now.declarations ty) }
     {
@@ -326,6 +329,7 @@ impl Types {
     }
 
     /// The type of that field; None exactly where there is no such struct or exception type or field.
+    #[inline(always)]
     pub fn field(&self, ty: VMSharedTypeIndex, index: usize) -> Option<FieldType>
         ensures { result ≡ option_and_then (λ fields. slice_get fields index) (fields_at self.now.declarations ty) }
     {
@@ -334,6 +338,7 @@ impl Types {
     }
 
     /// The type of the elements; None exactly where the index names no array type.
+    #[inline(always)]
     pub fn array_elem(&self, ty: VMSharedTypeIndex) -> Option<FieldType>
         ensures { result ≡ elem_at self.now.declarations ty }
     {
@@ -343,6 +348,7 @@ impl Types {
 
     /// Where the fields of the struct or exception type lie in that heap; None exactly where the
     /// index names none.
+    #[inline(always)]
     pub fn struct_layout(&self, heap: Layouts, ty: VMSharedTypeIndex) -> Option<&GcStructLayout>
         ensures value { option_copied result ≡ layout_at heap self.now.declarations ty }
         ensures structs { IsSome (struct_fields_at self.now.declarations ty)
@@ -353,6 +359,7 @@ impl Types {
     }
 
     /// Where the elements of the array type lie in that heap; None exactly where the index names none.
+    #[inline(always)]
     pub fn array_layout(&self, heap: Layouts, ty: VMSharedTypeIndex) -> Option<&GcArrayLayout>
         ensures { option_copied result ≡ array_layout_at heap self.now.declarations ty }
     {

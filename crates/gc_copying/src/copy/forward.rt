@@ -14,6 +14,7 @@ use std::sync::ledger::Ledger;
 impl Space {
     /// Copies the object at a place, which had not been copied, behind the last object, and says where it
     /// is now. Its time is linear in the bytes of the object.
+    #[inline(always)]
     fn copy(&mut self, place: u32, kind_word: u32) -> u32
         requires copy { CanCopyTo self.old.memory place self.old.bump }
         requires kind { kind_word ≡ word self.old.memory place }
@@ -38,6 +39,7 @@ impl Space {
 
     /// Where the object is now whose place a word is. It is copied where it had not been, which counts a
     /// step. Null and 31-bit numbers stay.
+    #[inline(always)]
     pub(crate) fn forward<G: Ledger>(&mut self, reference: u32, steps: &mut Steps<G>) -> u32
         requires { CanForward self.old reference }
         ensures moved { (s : From) (t : ℕ) → Midway s t self.old → Known s reference → Forwards s t self.old self.new reference result }

@@ -13,6 +13,7 @@ use std::sync::ledger::Ledger;
 
 impl Space {
     /// Where the object is now that a root names. Counts a step, and one more where it is copied.
+    #[inline(always)]
     fn forward_root<G: Ledger>(&mut self, reference: VMGcRef, steps: &mut Steps<G>) -> VMGcRef
         requires { CanForward self.old reference }
         ensures moved { (s : From) (t : ℕ) → Midway s t self.old → Known s reference → Forwards s t self.old self.new reference result }

@@ -19,6 +19,7 @@ use std::sync::ledger::Ledger;
 
 impl Space {
     /// Moves the reference at an offset of a copy, which counts a step.
+    #[inline(always)]
     fn scan_field<G: Ledger>(&mut self, copy: u32, offset: u32, steps: &mut Steps<G>)
         requires { CanScanAt self.old copy offset }
         ensures scanned { (s : From) (p u : ℕ) (left : List ℕ) → Scanning s p copy u (offset ∷ left) self.old
@@ -35,6 +36,7 @@ impl Space {
     }
 
     /// Moves the references that a bitmap names: bit s the word at 12 + 4 * s.
+    #[inline(always)]
     fn scan_bitmap<G: Ledger>(&mut self, copy: u32, bits: u32, steps: &mut Steps<G>)
         requires left { CanScanCopy self.old copy (bitmap_places bits) }
         requires bits { bits < form_unit }
@@ -122,6 +124,7 @@ impl Space {
     }
 
     /// Moves the references of a copy, in the order of their offsets.
+    #[inline(always)]
     fn scan_references<G: Ledger>(&mut self, copy: u32, types: &Types, steps: &mut Steps<G>)
         requires { CanScanCopy self.old copy (copying_offsets_at types.now.declarations self.old.memory copy) }
         ensures scanned { (s : From) (p u : ℕ) → Scanning s p copy u (copying_offsets_at types.now.declarations self.old.memory copy) self.old
@@ -141,6 +144,7 @@ impl Space {
     }
 
     /// Scans the copy at a place, and says where the next one is.
+    #[inline(always)]
     fn scan_object<G: Ledger>(&mut self, copy: u32, types: &Types, steps: &mut Steps<G>) -> u32
         requires work { CanWork types.now.declarations self.old copy }
         requires less { copy < self.old.bump }

@@ -10,6 +10,7 @@ use crate::space::{CountedSpace, MARKED};
 
 impl CountedSpace {
     /// Marks an object that isn't marked.
+    #[inline(always)]
     pub(crate) fn mark(&mut self, place: u32)
         requires { CanMark self.old place }
         ensures marked { (c : Context) (v : View) → At c v self.old → In place v.places → occ place v.marked ≡ 0 → At c (marked_also v place) self.new }
@@ -21,6 +22,7 @@ impl CountedSpace {
     }
 
     /// Clears the mark of an object that is marked.
+    #[inline(always)]
     pub(crate) fn clear_mark(&mut self, place: u32)
         requires { CanUnmark self.old place }
         ensures { (c : Context) (v : View) → At c v self.old → 0 < occ place v.marked → At c (unmarked v place) self.new }

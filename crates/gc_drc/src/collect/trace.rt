@@ -27,6 +27,7 @@ impl Visitor for MarkReached {
 
     ghost intact = { λ c unscanned rest space visitor state. (state.at.start, state.at.intact) };
 
+    #[inline(always)]
     fn visit(&mut self, space: &mut CountedSpace, word: u32) {
         if is_place(word) {
             if space.is_marked(word) {

@@ -42,6 +42,7 @@ pub(crate) trait Visitor {
 
 impl CountedSpace {
     /// Visits the word at an offset of an object.
+    #[inline(always)]
     fn visit_at<V: Visitor>(&mut self, place: u32, offset: u32, visitor: &mut V)
         requires { CanVisitAt (λ c places words. V.state c places self.old visitor.old words) place offset }
         ensures { (rest : List ℕ) → Visits (λ c places words. V.state c places self.old visitor.old words)
@@ -52,6 +53,7 @@ impl CountedSpace {
     }
 
     /// Visits the words at these offsets of an object.
+    #[inline(always)]
     fn visit_offsets<V: Visitor>(&mut self, place: u32, offsets: &[u32], visitor: &mut V)
         requires { CanVisit (λ c places words. V.state c places self.old visitor.old words) place offsets.now }
         ensures { Visits (λ c places words. V.state c places self.old visitor.old words)
@@ -74,6 +76,7 @@ impl CountedSpace {
     }
 
     /// The kind of an object.
+    #[inline(always)]
     pub(crate) fn kind(&self, place: u32) -> VMGcKind
         requires room { place + 28 ≤ length self.now.memory }
         requires kind { IsOfKind (counting_kind_at self.now.memory place) (word self.now.memory place) }
@@ -86,6 +89,7 @@ impl CountedSpace {
     }
 
     /// The trace info of an object; None where it has no references by its kind.
+    #[inline(always)]
     fn trace_info_of<'t>(&self, types: &'t Types, place: u32) -> Option<&'t TraceInfo>
         requires room { place + 28 ≤ length self.now.memory }
         requires kind { IsOfKind (counting_kind_at self.now.memory place) (word self.now.memory place) }

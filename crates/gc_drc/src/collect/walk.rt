@@ -29,6 +29,7 @@ impl Visitor for Uncount {
 
     ghost intact = { λ c places rest space visitor state. (state.at.start, state.at.intact) };
 
+    #[inline(always)]
     fn visit(&mut self, space: &mut CountedSpace, word: u32) {
         if is_place(word) {
             if space.is_marked(word) {
@@ -59,6 +60,7 @@ impl CountedSpace {
 
     /// The first held block from a place on, or the end of the managed places where there is none. Blocks
     /// may begin at that place.
+    #[inline(always)]
     pub(crate) fn next_place(&self, from: u32) -> u32
         requires { CanWalk self.now from }
         ensures { (c : Context) (v : View) → At c v self.now → IsBorder v from → IsNext v.places (walk_end self.now) from result }
