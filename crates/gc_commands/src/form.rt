@@ -46,6 +46,7 @@ pub enum Form {
 }
 
 /// The form that has this first word. A word is compared with those of its own length alone.
+#[inline(always)]
 pub(crate) fn form_of(word: &[u8]) -> Option<Form>
     ensures { Reads (λ f. Unit {0}) name_of word.now result }
 {
@@ -60,6 +61,7 @@ pub(crate) fn form_of(word: &[u8]) -> Option<Form>
 }
 
 /// The form whose first word has two letters.
+#[inline(always)]
 fn form_of_two(word: &[u8]) -> Option<Form>
     requires { length word.now ≡ 2 }
     ensures { Reads (λ f. Unit {0}) name_of word.now result }
@@ -72,6 +74,7 @@ fn form_of_two(word: &[u8]) -> Option<Form>
 }
 
 /// The form whose first word has three letters.
+#[inline(always)]
 fn form_of_three(word: &[u8]) -> Option<Form>
     requires { length word.now ≡ 3 }
     ensures { Reads (λ f. Unit {0}) name_of word.now result }
@@ -89,6 +92,7 @@ fn form_of_three(word: &[u8]) -> Option<Form>
 }
 
 /// The form whose first word has four letters.
+#[inline(always)]
 fn form_of_four(word: &[u8]) -> Option<Form>
     requires { length word.now ≡ 4 }
     ensures { Reads (λ f. Unit {0}) name_of word.now result }
@@ -111,6 +115,7 @@ fn form_of_four(word: &[u8]) -> Option<Form>
 }
 
 /// The form whose first word has five letters.
+#[inline(always)]
 fn form_of_five(word: &[u8]) -> Option<Form>
     requires { length word.now ≡ 5 }
     ensures { Reads (λ f. Unit {0}) name_of word.now result }
@@ -130,6 +135,7 @@ fn form_of_five(word: &[u8]) -> Option<Form>
 }
 
 /// The form whose first word has six letters.
+#[inline(always)]
 fn form_of_six(word: &[u8]) -> Option<Form>
     requires { length word.now ≡ 6 }
     ensures { Reads (λ f. Unit {0}) name_of word.now result }

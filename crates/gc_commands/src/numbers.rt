@@ -26,6 +26,7 @@ pub fn number(word: &str, most: u64) -> Option<u64>
 }
 
 /// The register that a word spells, from 0 to 65535.
+#[inline(always)]
 pub(crate) fn register_of(word: &str) -> Option<u16>
     ensures { Reads (λ r. r < 2 ^ 16) decimal word.now result }
 {
@@ -34,6 +35,7 @@ pub(crate) fn register_of(word: &str) -> Option<u16>
 }
 
 /// The index of a type that a word spells, from 0 to 4294967294; None where it spells none.
+#[inline(always)]
 pub fn type_of(word: &str) -> Option<u32>
     ensures { Reads (λ t. t < type_count) decimal word.now result }
 {
@@ -65,6 +67,7 @@ pub fn small_signed_number(word: &str) -> Option<i32>
 }
 
 /// Whether a word is `0`, or begins with another digit.
+#[inline(always)]
 fn is_plain(word: &str) -> bool
     ensures { IsTrue result ↔ IsPlain word.now }
 {

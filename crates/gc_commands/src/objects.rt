@@ -15,6 +15,7 @@ use crate::words::Words;
 use std::alloc::{AllocError, Global};
 
 /// The words behind `new`: a register, a type and any number of operands.
+#[inline(always)]
 pub(crate) fn read_new(alloc: Global, words: &mut Words) -> Result<Option<Command>, AllocError>
     ensures { IfOk result (λ command. Reads (IsOfForm form.New) operands_of words.old command) }
 {
@@ -32,6 +33,7 @@ pub(crate) fn read_new(alloc: Global, words: &mut Words) -> Result<Option<Comman
 }
 
 /// The words behind `newexn`: a register, a type, a tag and any number of operands.
+#[inline(always)]
 pub(crate) fn read_new_exn(alloc: Global, words: &mut Words) -> Result<Option<Command>, AllocError>
     ensures { IfOk result (λ command. Reads (IsOfForm form.NewExn) operands_of words.old command) }
 {
@@ -53,6 +55,7 @@ pub(crate) fn read_new_exn(alloc: Global, words: &mut Words) -> Result<Option<Co
 }
 
 /// The words behind `newarr`: a register, a type, a length and an operand.
+#[inline(always)]
 pub(crate) fn read_new_arr(words: &mut Words) -> Option<Command>
     ensures { Reads (IsOfForm form.NewArr) operands_of words.old result }
 {
@@ -64,6 +67,7 @@ pub(crate) fn read_new_arr(words: &mut Words) -> Option<Command>
 }
 
 /// The words behind `fixed`: a register, a type and any number of operands.
+#[inline(always)]
 pub(crate) fn read_fixed(alloc: Global, words: &mut Words) -> Result<Option<Command>, AllocError>
     ensures { IfOk result (λ command. Reads (IsOfForm form.Fixed) operands_of words.old command) }
 {
@@ -81,6 +85,7 @@ pub(crate) fn read_fixed(alloc: Global, words: &mut Words) -> Result<Option<Comm
 }
 
 /// The words behind `bytes`: two numbers, or a register, a type and bytes.
+#[inline(always)]
 pub(crate) fn read_bytes(alloc: Global, words: &mut Words) -> Result<Option<Command>, AllocError>
     ensures { IfOk result (λ command. Reads (IsOfForm form.Bytes) operands_of words.old command) }
 {

@@ -31,6 +31,7 @@ pub const MAX_LINE: usize = 1_048_576;
 /// spells none. Numbers are plain decimals without leading zeros, words have one space between
 /// them, and a line of more than `MAX_LINE` bytes is `Bad`. Takes time linear in the line, and
 /// memory for as many fields, values or bytes as the line has words, where its form has a list.
+#[inline(always)]
 pub fn parse_line(alloc: Global, line: &[u8]) -> Result<Command, AllocError>
     ensures { IfOk result (λ command. IsCommandOf line.now command) }
 {
@@ -51,6 +52,7 @@ pub fn parse_line(alloc: Global, line: &[u8]) -> Result<Command, AllocError>
 }
 
 /// The words behind the first one of a line; None where they are no text.
+#[inline(always)]
 fn words_behind(behind: Option<&[u8]>) -> Option<Words>
     ensures { MatchOption result (MatchOption behind.entry ⊥ (λ rest. ¬ IsUtf8 rest.now))
         (λ words. words ≡ option_map_or (λ rest. slice_split (λ b. b == 32) rest.now) behind.entry []) }
@@ -62,6 +64,7 @@ fn words_behind(behind: Option<&[u8]>) -> Option<Words>
 }
 
 /// The command of a form that the words behind its name spell. Only a list takes memory.
+#[inline(always)]
 fn read_form(alloc: Global, form: Form, words: &mut Words) -> Result<Option<Command>, AllocError>
     ensures { IfOk result (λ command. Reads (IsOfForm form) operands_of words.old command) }
 {
@@ -79,6 +82,7 @@ fn read_form(alloc: Global, form: Form, words: &mut Words) -> Result<Option<Comm
 /// The command of a form without a list that the words behind its name spell.
 // Each arm is the answer as it is: an `Ok` around it would be one more room for a command in each arm, and all of
 // them are cleared whatever the form is.
+#[inline(always)]
 fn read_listless(form: Form, words: &mut Words) -> Option<Command>
     requires { has_list form ≡ false }
     ensures { Reads (IsOfForm form) operands_of words.old result }

@@ -21,6 +21,7 @@ use crate::words::Words;
 use std::alloc::{AllocError, Global};
 
 /// A register, from 0 to 65535.
+#[inline(always)]
 pub(crate) fn read_register(words: &mut Words) -> Option<u16>
     ensures { ReadsFirst (λ r. r < 2 ^ 16) decimal words.old result words.new }
 {
@@ -28,6 +29,7 @@ pub(crate) fn read_register(words: &mut Words) -> Option<u16>
 }
 
 /// Takes the index of a type, from 0 to 4294967294; None where the next word, if any, spells none.
+#[inline(always)]
 pub fn read_type(words: &mut Words) -> Option<u32>
     ensures { ReadsFirst (λ t. t < type_count) decimal words.old result words.new }
 {
@@ -35,6 +37,7 @@ pub fn read_type(words: &mut Words) -> Option<u32>
 }
 
 /// Takes a number from 0 to 4294967295; None where the next word, if any, spells none.
+#[inline(always)]
 pub fn read_u32(words: &mut Words) -> Option<u32>
     ensures { ReadsFirst (λ n. n < 2 ^ 32) decimal words.old result words.new }
 {
@@ -43,6 +46,7 @@ pub fn read_u32(words: &mut Words) -> Option<u32>
 }
 
 /// Takes a number of 64 bits; None where the next word, if any, spells none.
+#[inline(always)]
 pub fn read_u64(words: &mut Words) -> Option<u64>
     ensures { ReadsFirst (λ n. n < 2 ^ 64) decimal words.old result words.new }
 {
@@ -50,6 +54,7 @@ pub fn read_u64(words: &mut Words) -> Option<u64>
 }
 
 /// An operand.
+#[inline(always)]
 pub(crate) fn read_operand(words: &mut Words) -> Option<Operand>
     ensures { ReadsFirst FitsOperand operand_text words.old result words.new }
 {
@@ -57,6 +62,7 @@ pub(crate) fn read_operand(words: &mut Words) -> Option<Operand>
 }
 
 /// The register that the one word left spells; `Some(None)` where no word is left.
+#[inline(always)]
 pub(crate) fn read_into(words: &mut Words) -> Option<Option<u16>>
     ensures { Reads (λ into. IfSome into (λ d. d < 2 ^ 16)) into_words words.old result }
 {
@@ -69,6 +75,7 @@ pub(crate) fn read_into(words: &mut Words) -> Option<Option<u16>>
 }
 
 /// The end of the words; None where a word is left.
+#[inline(always)]
 pub fn read_end(words: &mut Words) -> Option<()>
     ensures { MatchOption result (¬ (words.old ≡ [])) (λ _. words.old ≡ []) }
 {
@@ -79,6 +86,7 @@ pub fn read_end(words: &mut Words) -> Option<()>
 }
 
 /// One register, and no more words.
+#[inline(always)]
 pub(crate) fn read_last_register(words: &mut Words) -> Option<u16>
     ensures { Reads (λ r. r < 2 ^ 16) number_words words.old result }
 {
@@ -88,6 +96,7 @@ pub(crate) fn read_last_register(words: &mut Words) -> Option<u16>
 }
 
 /// A number of 64 bits, and no more words.
+#[inline(always)]
 pub(crate) fn read_last_u64(words: &mut Words) -> Option<u64>
     ensures { Reads (λ n. n < 2 ^ 64) number_words words.old result }
 {
@@ -97,6 +106,7 @@ pub(crate) fn read_last_u64(words: &mut Words) -> Option<u64>
 }
 
 /// Two registers, and no more words.
+#[inline(always)]
 pub(crate) fn read_registers(words: &mut Words) -> Option<(u16, u16)>
     ensures { Reads FitRegisters pair_words words.old result }
 {
@@ -107,6 +117,7 @@ pub(crate) fn read_registers(words: &mut Words) -> Option<(u16, u16)>
 }
 
 /// A register and a number of 32 bits, and no more words.
+#[inline(always)]
 pub(crate) fn read_register_and_number(words: &mut Words) -> Option<(u16, u32)>
     ensures { Reads FitRegisterAndNumber pair_words words.old result }
 {
@@ -117,6 +128,7 @@ pub(crate) fn read_register_and_number(words: &mut Words) -> Option<(u16, u32)>
 }
 
 /// A register and a number of 64 bits, and no more words.
+#[inline(always)]
 pub(crate) fn read_register_and_wide(words: &mut Words) -> Option<(u16, u64)>
     ensures { Reads FitRegisterAndWide pair_words words.old result }
 {
@@ -127,6 +139,7 @@ pub(crate) fn read_register_and_wide(words: &mut Words) -> Option<(u16, u64)>
 }
 
 /// A register and an index, and a register where one more word stands.
+#[inline(always)]
 pub(crate) fn read_place(words: &mut Words) -> Option<(u16, u32, Option<u16>)>
     ensures { Reads FitPlace place_words words.old result }
 {
@@ -137,6 +150,7 @@ pub(crate) fn read_place(words: &mut Words) -> Option<(u16, u32, Option<u16>)>
 }
 
 /// A register, an index and an operand, and no more words.
+#[inline(always)]
 pub(crate) fn read_write(words: &mut Words) -> Option<(u16, u32, Operand)>
     ensures { Reads FitWrite write_words words.old result }
 {
@@ -148,6 +162,7 @@ pub(crate) fn read_write(words: &mut Words) -> Option<(u16, u32, Operand)>
 }
 
 /// A register and a type.
+#[inline(always)]
 pub(crate) fn read_target(words: &mut Words) -> Option<(u16, u32)>
     ensures { ReadsTarget words.old result words.new }
 {

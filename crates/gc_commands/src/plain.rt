@@ -13,6 +13,7 @@ use crate::parts::{
 use crate::words::Words;
 
 /// The words behind `host`: a register and a number.
+#[inline(always)]
 pub(crate) fn read_host(words: &mut Words) -> Option<Command>
     ensures { Reads (IsOfForm form.Host) operands_of words.old result }
 {
@@ -21,6 +22,7 @@ pub(crate) fn read_host(words: &mut Words) -> Option<Command>
 }
 
 /// The words behind `i31`: a register and a number.
+#[inline(always)]
 pub(crate) fn read_i31(words: &mut Words) -> Option<Command>
     ensures { Reads (IsOfForm form.I31) operands_of words.old result }
 {
@@ -29,6 +31,7 @@ pub(crate) fn read_i31(words: &mut Words) -> Option<Command>
 }
 
 /// The words behind `field`: a register, an index, and where the value goes.
+#[inline(always)]
 pub(crate) fn read_field(words: &mut Words) -> Option<Command>
     ensures { Reads (IsOfForm form.Field) operands_of words.old result }
 {
@@ -37,6 +40,7 @@ pub(crate) fn read_field(words: &mut Words) -> Option<Command>
 }
 
 /// The words behind `elem`: a register, an index, and where the value goes.
+#[inline(always)]
 pub(crate) fn read_elem(words: &mut Words) -> Option<Command>
     ensures { Reads (IsOfForm form.Elem) operands_of words.old result }
 {
@@ -45,6 +49,7 @@ pub(crate) fn read_elem(words: &mut Words) -> Option<Command>
 }
 
 /// The words behind `setf`: a register, an index and an operand.
+#[inline(always)]
 pub(crate) fn read_set_field(words: &mut Words) -> Option<Command>
     ensures { Reads (IsOfForm form.SetField) operands_of words.old result }
 {
@@ -53,6 +58,7 @@ pub(crate) fn read_set_field(words: &mut Words) -> Option<Command>
 }
 
 /// The words behind `sete`: a register, an index and an operand.
+#[inline(always)]
 pub(crate) fn read_set_elem(words: &mut Words) -> Option<Command>
     ensures { Reads (IsOfForm form.SetElem) operands_of words.old result }
 {
@@ -61,6 +67,7 @@ pub(crate) fn read_set_elem(words: &mut Words) -> Option<Command>
 }
 
 /// The words behind `grow`: a number.
+#[inline(always)]
 pub(crate) fn read_grow(words: &mut Words) -> Option<Command>
     ensures { Reads (IsOfForm form.Grow) operands_of words.old result }
 {
@@ -69,6 +76,7 @@ pub(crate) fn read_grow(words: &mut Words) -> Option<Command>
 }
 
 /// The words behind `len`: a register.
+#[inline(always)]
 pub(crate) fn read_len(words: &mut Words) -> Option<Command>
     ensures { Reads (IsOfForm form.Len) operands_of words.old result }
 {
@@ -77,6 +85,7 @@ pub(crate) fn read_len(words: &mut Words) -> Option<Command>
 }
 
 /// The words behind `data`: a register.
+#[inline(always)]
 pub(crate) fn read_host_number(words: &mut Words) -> Option<Command>
     ensures { Reads (IsOfForm form.HostNumber) operands_of words.old result }
 {
@@ -85,6 +94,7 @@ pub(crate) fn read_host_number(words: &mut Words) -> Option<Command>
 }
 
 /// The words behind `push`: a number of slots.
+#[inline(always)]
 pub(crate) fn read_push(words: &mut Words) -> Option<Command>
     ensures { Reads (IsOfForm form.Push) operands_of words.old result }
 {
@@ -93,6 +103,7 @@ pub(crate) fn read_push(words: &mut Words) -> Option<Command>
 }
 
 /// The words behind `unroot`: an owned register.
+#[inline(always)]
 pub(crate) fn read_unroot(words: &mut Words) -> Option<Command>
     ensures { Reads (IsOfForm form.Unroot) operands_of words.old result }
 {
@@ -101,6 +112,7 @@ pub(crate) fn read_unroot(words: &mut Words) -> Option<Command>
 }
 
 /// The words behind `throw`: a register.
+#[inline(always)]
 pub(crate) fn read_throw(words: &mut Words) -> Option<Command>
     ensures { Reads (IsOfForm form.Throw) operands_of words.old result }
 {
@@ -109,6 +121,7 @@ pub(crate) fn read_throw(words: &mut Words) -> Option<Command>
 }
 
 /// The words behind `take`: a register.
+#[inline(always)]
 pub(crate) fn read_take(words: &mut Words) -> Option<Command>
     ensures { Reads (IsOfForm form.Take) operands_of words.old result }
 {
@@ -117,6 +130,7 @@ pub(crate) fn read_take(words: &mut Words) -> Option<Command>
 }
 
 /// The words behind `eq`: two registers.
+#[inline(always)]
 pub(crate) fn read_eq(words: &mut Words) -> Option<Command>
     ensures { Reads (IsOfForm form.Eq) operands_of words.old result }
 {
@@ -125,6 +139,7 @@ pub(crate) fn read_eq(words: &mut Words) -> Option<Command>
 }
 
 /// The words behind `store`: a slot and a register.
+#[inline(always)]
 pub(crate) fn read_store(words: &mut Words) -> Option<Command>
     ensures { Reads (IsOfForm form.Store) operands_of words.old result }
 {
@@ -133,6 +148,7 @@ pub(crate) fn read_store(words: &mut Words) -> Option<Command>
 }
 
 /// The words behind `load`: a slot and a register.
+#[inline(always)]
 pub(crate) fn read_load(words: &mut Words) -> Option<Command>
     ensures { Reads (IsOfForm form.Load) operands_of words.old result }
 {
@@ -141,6 +157,7 @@ pub(crate) fn read_load(words: &mut Words) -> Option<Command>
 }
 
 /// The words behind `gset`: a global and a register.
+#[inline(always)]
 pub(crate) fn read_set_global(words: &mut Words) -> Option<Command>
     ensures { Reads (IsOfForm form.SetGlobal) operands_of words.old result }
 {
@@ -149,6 +166,7 @@ pub(crate) fn read_set_global(words: &mut Words) -> Option<Command>
 }
 
 /// The words behind `gget`: a global and a register.
+#[inline(always)]
 pub(crate) fn read_get_global(words: &mut Words) -> Option<Command>
     ensures { Reads (IsOfForm form.GetGlobal) operands_of words.old result }
 {
@@ -157,6 +175,7 @@ pub(crate) fn read_get_global(words: &mut Words) -> Option<Command>
 }
 
 /// The words behind `own`: an owned register and a register.
+#[inline(always)]
 pub(crate) fn read_own(words: &mut Words) -> Option<Command>
     ensures { Reads (IsOfForm form.Own) operands_of words.old result }
 {
@@ -165,6 +184,7 @@ pub(crate) fn read_own(words: &mut Words) -> Option<Command>
 }
 
 /// The words behind `root`: a register and an owned register.
+#[inline(always)]
 pub(crate) fn read_root(words: &mut Words) -> Option<Command>
     ensures { Reads (IsOfForm form.Root) operands_of words.old result }
 {

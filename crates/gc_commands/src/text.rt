@@ -38,6 +38,7 @@ pub fn push_reply(text: &mut String, reply: &Reply) -> Result<(), AllocError>
 
 /// The line of a reply that tells no value, number or bytes, its line feed included: it takes no buffer to write it.
 /// None for other replies.
+#[inline(always)]
 pub fn fixed_line(reply: &Reply) -> Option<&'static str>
     ensures { IfSome result (λ line. line.now ≡ text_of reply.now ++ codes "\n") }
 {

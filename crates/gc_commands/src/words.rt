@@ -74,6 +74,7 @@ impl<'a> Words<'a> {
 }
 
 /// The first word of a line, and what stands behind the space that ends it; None where no space does.
+#[inline(always)]
 pub(crate) fn cut_name(line: &[u8]) -> (&[u8], Option<&[u8]>)
     ensures words { slice_split (λ b. b == 32) line.now ≡ result.0.now ∷ option_map_or (λ rest. slice_split (λ b. b == 32) rest.now) result.1 [] }
     ensures behind { IfSome result.1 (λ rest. line.now ≡ result.0.now ++ 32 ∷ rest.now) }
@@ -85,6 +86,7 @@ pub(crate) fn cut_name(line: &[u8]) -> (&[u8], Option<&[u8]>)
 }
 
 /// Where the first space stands.
+#[inline(always)]
 fn first_space(bytes: &[u8]) -> Option<usize>
     ensures { result ≡ position (λ b. b == 32) bytes.now }
 {

@@ -47,6 +47,7 @@ pub fn is_version_of<H: GcHeap, D: Drop>(store: &Store<H, D>, version: Option<Gc
 }
 
 /// The integer of 64 bits that a value is; 0 where it is none.
+#[inline(always)]
 pub fn number_in(value: &RawValue) -> i64
     ensures { result ≡ number_in value.now }
 {

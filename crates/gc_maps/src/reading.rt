@@ -30,6 +30,7 @@ const LEFT: u32 = 3;
 const RIGHT: u32 = 4;
 
 /// The 32-bit integer that a value is; 0 where it is none.
+#[inline(always)]
 fn int_in(value: &RawValue) -> i32
     ensures { result ≡ int_in value.now }
 {
@@ -94,6 +95,7 @@ pub(crate) fn read_link<H: GcHeap, D: Drop>(
 }
 
 /// What a node has, with a root for each of its children.
+#[inline(always)]
 pub(crate) fn read_node<H: GcHeap, D: Drop>(
     store: &mut Store<H, D>,
     node: GcRootIndex,
@@ -122,6 +124,7 @@ pub(crate) fn read_node<H: GcHeap, D: Drop>(
 }
 
 /// A part by its root.
+#[inline(always)]
 pub(crate) fn part_of<H: GcHeap, D: Drop>(
     store: &mut Store<H, D>,
     root: Option<GcRootIndex>,

@@ -6,6 +6,7 @@ ghost use Rattle.gc_script.specs.Built.{is_built};
 use gc_commands::Command;
 
 /// Whether a command is one, and not a line that is none.
+#[inline(always)]
 pub(crate) fn is_built(command: &Command) -> bool
     ensures { result ≡ is_built command.now }
 {

@@ -63,6 +63,7 @@ impl LineCutter {
 
     /// The first line of `piece`, without its line feed, where the cutter is at the start of a line and that one
     /// ends in the piece: then it needs no `feed`, and is copied nowhere.
+    #[inline(always)]
     pub fn whole_line<'a>(&self, piece: &'a [u8]) -> Option<&'a [u8]>
         ensures start { IfSome result (λ line. self.now ≡ no_line) }
         ensures begins { IfSome result (λ line. BeginsWhole line.now piece.now) }
@@ -121,6 +122,7 @@ impl LineCutter {
 }
 
 /// Where the first line feed stands.
+#[inline(always)]
 fn first_line_feed(bytes: &[u8]) -> Option<usize>
     ensures { result ≡ position (λ b. b == 10) bytes.now }
 {

@@ -15,6 +15,7 @@ use gc_store::{RawValue, SlotFault, Store};
 
 impl Runner {
     /// Opens a frame of that many slots.
+    #[inline(always)]
     pub(crate) fn push_frame<H: GcHeap>(
         &self,
         store: &mut Store<H, u64>,
@@ -30,6 +31,7 @@ impl Runner {
     }
 
     /// Closes the newest frame. Takes no memory.
+    #[inline(always)]
     pub(crate) fn pop_frame<H: GcHeap>(&self, store: &mut Store<H, u64>) -> Reply
         ensures goes { (s : State) → HoldsState H.KIND store.old self.now s → GoesOn H.KIND s Command.Pop (Ok result) store.new self.now }
         ensures same { IsSameStore store.old store.new }
@@ -42,6 +44,7 @@ impl Runner {
     }
 
     /// Sets slot `k` of the newest frame to the reference in register `r`. Takes no memory.
+    #[inline(always)]
     pub(crate) fn store_slot<H: GcHeap>(&self, store: &mut Store<H, u64>, k: u16, r: u16) -> Reply
         ensures goes { (s : State) → HoldsState H.KIND store.old self.now s → GoesOn H.KIND s (Command.Store k r) (Ok result) store.new self.now }
         ensures same { IsSameStore store.old store.new }
@@ -62,6 +65,7 @@ impl Runner {
     }
 
     /// The value of slot `k` of the newest frame, which goes into register `d`.
+    #[inline(always)]
     pub(crate) fn load_slot<H: GcHeap>(
         &mut self,
         store: &mut Store<H, u64>,

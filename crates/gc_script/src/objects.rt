@@ -42,6 +42,7 @@ pub(crate) struct NamedObject {
 
 impl Wanted {
     /// Whether the object is one of these.
+    #[inline(always)]
     fn takes(self, object: &RootedObject) -> bool
         ensures { result ≡ takes self object.now }
     {
@@ -57,6 +58,7 @@ impl Wanted {
 }
 
 /// How many fields a type has; 0 where it has none.
+#[inline(always)]
 fn count_of_fields<H: GcHeap>(store: &Store<H, u64>, ty: VMSharedTypeIndex) -> u32
     ensures { result ≡ count_of_fields store.now.types ty }
 {
@@ -70,6 +72,7 @@ fn count_of_fields<H: GcHeap>(store: &Store<H, u64>, ty: VMSharedTypeIndex) -> u
 }
 
 /// An object by what the store says of its root; None where it has no values.
+#[inline(always)]
 fn describe<H: GcHeap>(
     store: &Store<H, u64>,
     root: GcRootIndex,
@@ -97,6 +100,7 @@ fn describe<H: GcHeap>(
 }
 
 /// The object that a root names, of which the store told this, where it is one of these.
+#[inline(always)]
 fn object_of<H: GcHeap>(
     store: &Store<H, u64>,
     root: GcRootIndex,
@@ -141,6 +145,7 @@ pub(crate) fn find_object<H: GcHeap>(
 }
 
 /// The type of the value at that index, where there is one; of elements whatever the index is.
+#[inline(always)]
 pub(crate) fn type_at<H: GcHeap>(
     store: &Store<H, u64>,
     types: &ValueTypes,

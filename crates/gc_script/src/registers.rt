@@ -47,6 +47,7 @@ impl Registers {
     }
 
     /// What the register holds, if it was set.
+    #[inline(always)]
     pub(crate) fn get(&self, number: u16) -> Option<RawValue>
         ensures { result ≡ register_at self.now number }
     {
@@ -57,6 +58,7 @@ impl Registers {
     }
 
     /// Makes room for the register, which stays unset.
+    #[inline(always)]
     pub(crate) fn make_room(&mut self, number: u16) -> Result<(), AllocError>
         ensures room { OnOk result (number < length self.new) }
         ensures had_none { OnErr result (length self.old ≤ number) }
@@ -66,6 +68,7 @@ impl Registers {
     }
 
     /// Sets the register, for which there is room.
+    #[inline(always)]
     pub(crate) fn set(&mut self, number: u16, register: RawValue)
         requires { number < length self.old }
         ensures set { register_at self.new number ≡ Some register }

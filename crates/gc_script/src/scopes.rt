@@ -13,6 +13,7 @@ use gc_store::Store;
 
 impl Runner {
     /// Enters a scope of roots.
+    #[inline(always)]
     pub(crate) fn enter<H: GcHeap>(&mut self, store: &Store<H, u64>) -> Result<Reply, RunError>
         ensures goes { (s : State) → HoldsState H.KIND store.now self.old s → GoesOn H.KIND s Command.Enter result store.now self.new }
     {
@@ -23,6 +24,7 @@ impl Runner {
     }
 
     /// Leaves the scope that was entered last.
+    #[inline(always)]
     pub(crate) fn leave<H: GcHeap>(&mut self, store: &mut Store<H, u64>) -> Reply
         ensures goes { (s : State) → HoldsState H.KIND store.old self.old s → GoesOn H.KIND s Command.Leave (Ok result) store.new self.new }
         ensures same { IsSameStore store.old store.new }

@@ -22,6 +22,7 @@ use gc_types::FieldType;
 use std::alloc::AllocError;
 
 /// What an operand holds; None where it is a register that is unset.
+#[inline(always)]
 pub(crate) fn operand_value(registers: &Registers, operand: &Operand) -> Option<RawValue>
     ensures is { result ≡ raw_operand registers.now operand.now }
     ensures holds { HoldsOperand registers.now operand.now result }
@@ -40,6 +41,7 @@ pub(crate) fn operand_value(registers: &Registers, operand: &Operand) -> Option<
 }
 
 /// What an operand holds; null where it is a register that is unset.
+#[inline(always)]
 fn value_or_null(registers: &Registers, operand: &Operand) -> RawValue
     ensures { result ≡ set_operand registers.now operand.now }
 {
@@ -50,6 +52,7 @@ fn value_or_null(registers: &Registers, operand: &Operand) -> RawValue
 }
 
 /// Whether some operand is a register that is unset.
+#[inline(always)]
 pub(crate) fn any_unset(registers: &Registers, operands: &[Operand]) -> bool
     ensures unset { IsTrue result → HasUnset registers.now operands.now }
     ensures set { result ≡ false → AreSet registers.now operands.now }
@@ -63,6 +66,7 @@ pub(crate) fn any_unset(registers: &Registers, operands: &[Operand]) -> bool
 }
 
 /// Makes a list that of the values of operands, none of which is a register that is unset. Its room is used again.
+#[inline(always)]
 pub(crate) fn give_values(
     values: &mut Vec<RawValue>,
     registers: &Registers,
@@ -78,6 +82,7 @@ pub(crate) fn give_values(
 }
 
 /// The class and the handle of a value, where it is a reference.
+#[inline(always)]
 pub(crate) fn slot_of(value: &RawValue) -> Option<(GcClass, Option<GcRootIndex>)>
     ensures { result ≡ raw_slot value.now }
 {
@@ -88,6 +93,7 @@ pub(crate) fn slot_of(value: &RawValue) -> Option<(GcClass, Option<GcRootIndex>)
 }
 
 /// Whether a value is a function or a continuation, or none.
+#[inline(always)]
 pub(crate) fn is_opaque(value: &RawValue) -> bool
     ensures { result ≡ is_opaque value.now }
 {
@@ -96,6 +102,7 @@ pub(crate) fn is_opaque(value: &RawValue) -> bool
 
 /// What a value names: nothing where it is a number or null. `Unrooted` where its root is gone. No function and no
 /// continuation stands in a register.
+#[inline(always)]
 fn named_by<H: GcHeap>(
     store: &Store<H, u64>,
     value: &RawValue,
@@ -133,6 +140,7 @@ pub(crate) fn is_live<H: GcHeap>(store: &Store<H, u64>, value: &RawValue) -> boo
 
 /// Whether a value may go into a field or an element of that type: `Unrooted` where its root is gone, then
 /// `TypeMismatch`, also where there is no type.
+#[inline(always)]
 pub(crate) fn check_value<H: GcHeap>(
     store: &Store<H, u64>,
     field: Option<FieldType>,
@@ -159,6 +167,7 @@ pub(crate) fn check_value<H: GcHeap>(
 
 /// Whether the values of operands, none of which is a register that is unset, may go into fields or elements of these
 /// types; the first that may not says why.
+#[inline(always)]
 pub(crate) fn check_operands<H: GcHeap>(
     store: &Store<H, u64>,
     registers: &Registers,

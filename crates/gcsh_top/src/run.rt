@@ -75,6 +75,7 @@ fn write_reply<K: Sink>(text: &mut String, sink: &mut K, reply: &Reply) -> Resul
 }
 
 /// Writes a reply as it goes out, with its line feed.
+#[inline(always)]
 fn write_line<K: Sink>(sink: &mut K, line: &str) -> Result<(), LineFault>
     ensures replied { OnOk result (Appends (K.tells sink.old).held (K.tells sink.new).held line.now) }
     ensures part { OnErr result (TookPart (K.tells sink.old).held (K.tells sink.new).held line.now) }
@@ -88,6 +89,7 @@ fn write_line<K: Sink>(sink: &mut K, line: &str) -> Result<(), LineFault>
 }
 
 /// Runs a line, and writes its reply.
+#[inline(always)]
 fn run_line<H: GcHeap, L: ResourceLimiter, K: Sink>(
     alloc: Global,
     runner: &mut Runner,

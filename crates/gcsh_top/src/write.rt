@@ -9,6 +9,7 @@ use crate::sink::{Sink, SinkFault};
 
 /// Writes all of `bytes`, in as many writes as the sink makes of it. After a fault the sink took
 /// a front of them.
+#[inline(always)]
 pub fn write_all<K: Sink>(sink: &mut K, bytes: &[u8]) -> Result<(), SinkFault>
     ensures ok { OnOk result (Appends (K.tells sink.old).held (K.tells sink.new).held bytes.now) }
     ensures part { OnErr result (TookPart (K.tells sink.old).held (K.tells sink.new).held bytes.now) }
