@@ -96,6 +96,7 @@ impl<W: Write> StdSink<W> {
 impl<W: Write> Sink for StdSink<W> {
     ghost tells = { λ s. record { held = None; faults = s.faults; flushed = s.flushed } };
 
+    #[inline(always)]
     fn write(&mut self, bytes: &[u8]) -> Result<usize, SinkFault>
         ensures within { IfOk result (λ n. n ≤ length bytes.now) }
         ensures state { self.new ≡ after_write self.old bytes.now result }
