@@ -19,7 +19,6 @@ use gc_types::VMSharedTypeIndex;
 impl Runner {
     /// Makes an array of type `t` whose `len` elements all hold the operand, and puts it into register `d`.
     /// Whether the operand fits is not tested where there are none.
-    #[inline(always)]
     pub(crate) fn make_filled<H: GcHeap, L: ResourceLimiter>(
         &mut self,
         store: &mut Store<H, u64>,
@@ -58,7 +57,6 @@ impl Runner {
     }
 
     /// Makes an array of type `t` of these elements, and puts it into register `d`.
-    #[inline(always)]
     pub(crate) fn make_fixed<H: GcHeap, L: ResourceLimiter>(
         &mut self,
         store: &mut Store<H, u64>,
@@ -103,7 +101,6 @@ impl Runner {
 
     /// Makes an array of type `t`, whose elements are 8 bits wide, of these bytes, and puts it into register
     /// `d`.
-    #[inline(always)]
     pub(crate) fn make_bytes<H: GcHeap, L: ResourceLimiter>(
         &mut self,
         store: &mut Store<H, u64>,

@@ -26,7 +26,6 @@ fn held<H: GcHeap>(store: &Store<H, u64>) -> Reply
 
 impl Runner {
     /// Collects, and tells what the heap holds.
-    #[inline(always)]
     pub(crate) fn collect<H: GcHeap>(&self, store: &mut Store<H, u64>) -> Reply
         ensures runs { (limits : Limits) (s : State) → HoldsState H.KIND store.old self.now s
             → RunsOne H.KIND store.old.alloc_counter limits limits s Command.Gc (Ok result) store.new self.now }
@@ -38,7 +37,6 @@ impl Runner {
     }
 
     /// Begins a collection, drops it after its first increment, and tells what the heap holds.
-    #[inline(always)]
     pub(crate) fn collect_dropped<H: GcHeap>(&self, store: &mut Store<H, u64>) -> Reply
         ensures runs { (limits : Limits) (s : State) → HoldsState H.KIND store.old self.now s
             → RunsOne H.KIND store.old.alloc_counter limits limits s Command.GcDrop (Ok result) store.new self.now }
@@ -50,7 +48,6 @@ impl Runner {
     }
 
     /// Collects increment by increment, and tells how many there were.
-    #[inline(always)]
     pub(crate) fn collect_by_increments<H: GcHeap>(&self, store: &mut Store<H, u64>) -> Reply
         ensures runs { (limits : Limits) (s : State) → HoldsState H.KIND store.old self.now s
             → RunsOne H.KIND store.old.alloc_counter limits limits s Command.GcInc (Ok result) store.new self.now }

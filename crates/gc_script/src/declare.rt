@@ -15,7 +15,6 @@ use gc_types::{TypeFault, TypeKind};
 
 impl Runner {
     /// Declares a struct type.
-    #[inline(always)]
     pub(crate) fn declare_struct<H: GcHeap>(
         &self,
         store: &mut Store<H, u64>,
@@ -40,7 +39,6 @@ impl Runner {
     }
 
     /// Declares an array type. Takes no memory beside that of the type.
-    #[inline(always)]
     pub(crate) fn declare_array<H: GcHeap>(
         &self,
         store: &mut Store<H, u64>,

@@ -18,7 +18,6 @@ use gc_types::{Tag, TypeFault, TypeKind, VMSharedTypeIndex};
 
 impl Runner {
     /// Declares an exception type.
-    #[inline(always)]
     pub(crate) fn declare_exn<H: GcHeap>(
         &self,
         store: &mut Store<H, u64>,
@@ -40,7 +39,6 @@ impl Runner {
     }
 
     /// Makes an exception of type `t` with the tag (0, `tag`), and puts it into register `d`.
-    #[inline(always)]
     pub(crate) fn make_exn<H: GcHeap, L: ResourceLimiter>(
         &mut self,
         store: &mut Store<H, u64>,
@@ -65,7 +63,6 @@ impl Runner {
     }
 
     /// Throws the exception in register `r`: it is pending afterwards, in place of one that was. Takes no memory.
-    #[inline(always)]
     pub(crate) fn throw<H: GcHeap>(&self, store: &mut Store<H, u64>, r: u16) -> Reply
         ensures goes { (s : State) → HoldsState H.KIND store.old self.now s → GoesOn H.KIND s (Command.Throw r) (Ok result) store.new self.now }
         ensures same { IsSameStore store.old store.new }
@@ -86,7 +83,6 @@ impl Runner {
     }
 
     /// Takes the pending exception into register `d`; null where none is pending.
-    #[inline(always)]
     pub(crate) fn take<H: GcHeap>(
         &mut self,
         store: &mut Store<H, u64>,

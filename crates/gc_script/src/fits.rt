@@ -48,7 +48,6 @@ fn number_fits(ty: ValType, value: &RawValue) -> bool
 
 /// Whether a value that is no function or continuation fits the type of a field or an element, by the object that it
 /// names, where it names one.
-#[inline(always)]
 pub(crate) fn fits<H: GcHeap>(
     store: &Store<H, u64>,
     ty: StorageType,

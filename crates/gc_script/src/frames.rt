@@ -44,7 +44,6 @@ impl Runner {
     }
 
     /// Sets slot `k` of the newest frame to the reference in register `r`. Takes no memory.
-    #[inline(always)]
     pub(crate) fn store_slot<H: GcHeap>(&self, store: &mut Store<H, u64>, k: u16, r: u16) -> Reply
         ensures goes { (s : State) → HoldsState H.KIND store.old self.now s → GoesOn H.KIND s (Command.Store k r) (Ok result) store.new self.now }
         ensures same { IsSameStore store.old store.new }
@@ -65,7 +64,6 @@ impl Runner {
     }
 
     /// The value of slot `k` of the newest frame, which goes into register `d`.
-    #[inline(always)]
     pub(crate) fn load_slot<H: GcHeap>(
         &mut self,
         store: &mut Store<H, u64>,

@@ -15,7 +15,6 @@ use gc_store::{GLOBAL_COUNT, RawValue, SlotFault, Store};
 
 impl Runner {
     /// Sets global `g` to the reference in register `r`. Takes no memory.
-    #[inline(always)]
     pub(crate) fn set_global<H: GcHeap>(&self, store: &mut Store<H, u64>, g: u16, r: u16) -> Reply
         ensures goes { (s : State) → HoldsState H.KIND store.old self.now s → GoesOn H.KIND s (Command.SetGlobal g r) (Ok result) store.new self.now }
         ensures same { IsSameStore store.old store.new }
@@ -36,7 +35,6 @@ impl Runner {
     }
 
     /// The value of global `g`, which goes into register `d`.
-    #[inline(always)]
     pub(crate) fn get_global<H: GcHeap>(
         &mut self,
         store: &mut Store<H, u64>,

@@ -13,7 +13,6 @@ use gc_store::{GrowFault, ResourceLimiter, Store};
 
 impl Runner {
     /// Lets the heap grow by so many bytes.
-    #[inline(always)]
     pub(crate) fn grow<H: GcHeap, L: ResourceLimiter>(
         &self,
         store: &mut Store<H, u64>,
@@ -32,7 +31,6 @@ impl Runner {
     }
 
     /// The bytes of the heap's memory.
-    #[inline(always)]
     pub(crate) fn capacity<H: GcHeap>(&self, store: &Store<H, u64>) -> Reply
         ensures goes { (s : State) → HoldsState H.KIND store.now self.now s → GoesOn H.KIND s Command.Cap (Ok result) store.now self.now }
     {

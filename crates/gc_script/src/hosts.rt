@@ -14,7 +14,6 @@ use gc_store::{GcClass, PlaceHostFault, RawValue, ResourceLimiter, Store};
 
 impl Runner {
     /// Makes a host object with that number, and puts it into register `d`.
-    #[inline(always)]
     pub(crate) fn make_host<H: GcHeap, L: ResourceLimiter>(
         &mut self,
         store: &mut Store<H, u64>,
@@ -45,7 +44,6 @@ impl Runner {
 
     /// Tells the number of the host object in register `r`: `NoSuchName` where the register is unset, `Unrooted` where
     /// its root is gone, `WrongKind` where it holds anything else.
-    #[inline(always)]
     pub(crate) fn host_number<H: GcHeap>(&self, store: &Store<H, u64>, r: u16) -> Reply
         ensures goes { (s : State) → HoldsState H.KIND store.now self.now s → GoesOn H.KIND s (Command.HostNumber r) (Ok result) store.now self.now }
     {

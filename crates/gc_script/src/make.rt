@@ -150,7 +150,6 @@ impl Runner {
     }
 
     /// Makes a struct of type `t`, and puts it into register `d`.
-    #[inline(always)]
     pub(crate) fn make_struct<H: GcHeap, L: ResourceLimiter>(
         &mut self,
         store: &mut Store<H, u64>,
@@ -169,7 +168,6 @@ impl Runner {
     }
 
     /// Puts the low 31 bits of a number into register `d`.
-    #[inline(always)]
     pub(crate) fn make_i31<H: GcHeap>(
         &mut self,
         store: &mut Store<H, u64>,

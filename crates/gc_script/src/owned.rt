@@ -38,7 +38,6 @@ fn give_up_held<H: GcHeap>(store: &mut Store<H, u64>, held: Option<RawValue>)
 impl Runner {
     /// Makes an owned root for what register `r` names, and puts it into owned register `o`. What that held is given up
     /// afterwards.
-    #[inline(always)]
     pub(crate) fn own<H: GcHeap>(
         &mut self,
         store: &mut Store<H, u64>,
@@ -74,7 +73,6 @@ impl Runner {
     }
 
     /// Pushes a scoped root for what owned register `o` names, and puts it into register `d`.
-    #[inline(always)]
     pub(crate) fn root<H: GcHeap>(
         &mut self,
         store: &mut Store<H, u64>,
@@ -117,7 +115,6 @@ impl Runner {
     }
 
     /// Gives up what owned register `o` names. Takes no memory.
-    #[inline(always)]
     pub(crate) fn unroot<H: GcHeap>(&mut self, store: &mut Store<H, u64>, o: u16) -> Reply
         ensures goes { (s : State) → HoldsState H.KIND store.old self.old s → GoesOn H.KIND s (Command.Unroot o) (Ok result) store.new self.new }
         ensures same { IsSameStore store.old store.new }

@@ -79,7 +79,6 @@ fn holds_bytes(element: &Option<FieldType>) -> bool
 impl Runner {
     /// The value at index `i` of the object in register `r`, which is to be one of these; it goes into register
     /// `into` where one is named.
-    #[inline(always)]
     pub(crate) fn read_value<H: GcHeap>(
         &mut self,
         store: &mut Store<H, u64>,
@@ -117,7 +116,6 @@ impl Runner {
     }
 
     /// The length of the array in register `r`.
-    #[inline(always)]
     pub(crate) fn length<H: GcHeap>(&self, store: &Store<H, u64>, r: u16) -> Reply
         ensures { (s : State) → HoldsState H.KIND store.now self.now s → GoesOn H.KIND s (Command.Len r) (Ok result) store.now self.now }
     {
@@ -132,7 +130,6 @@ impl Runner {
     }
 
     /// The bytes of the array in register `r`, which is to have `len` elements of 8 bits.
-    #[inline(always)]
     pub(crate) fn read_bytes<H: GcHeap>(
         &self,
         store: &Store<H, u64>,

@@ -36,7 +36,6 @@ impl Runner {
     }
 
     /// Whether registers `r` and `q` hold the same reference.
-    #[inline(always)]
     pub(crate) fn compare<H: GcHeap>(&self, store: &Store<H, u64>, r: u16, q: u16) -> Reply
         ensures goes { (s : State) → HoldsState H.KIND store.now self.now s → GoesOn H.KIND s (Command.Eq r q) (Ok result) store.now self.now }
     {

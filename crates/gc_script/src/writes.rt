@@ -101,7 +101,6 @@ impl Runner {
     }
 
     /// Writes field `i` of the struct in register `r`: its index is tested before the value. Takes no memory.
-    #[inline(always)]
     pub(crate) fn write_field<H: GcHeap>(
         &self,
         store: &mut Store<H, u64>,
@@ -127,7 +126,6 @@ impl Runner {
     }
 
     /// Writes element `i` of the array in register `r`: its index is tested last. Takes no memory.
-    #[inline(always)]
     pub(crate) fn write_element<H: GcHeap>(
         &self,
         store: &mut Store<H, u64>,

@@ -89,7 +89,6 @@ fn write_line<K: Sink>(sink: &mut K, line: &str) -> Result<(), LineFault>
 }
 
 /// Runs a line, and writes its reply.
-#[inline(always)]
 fn run_line<H: GcHeap, L: ResourceLimiter, K: Sink>(
     alloc: Global,
     runner: &mut Runner,
