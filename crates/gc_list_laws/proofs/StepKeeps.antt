@@ -19,7 +19,7 @@ use Rattle.gc_commands.specs.declared.command.Command.TheVariants.{Bad, ReadByte
 use Rattle.gc_commands.specs.declared.reply.Reply.{Reply}
 use Rattle.gc_commands.specs.declared.reply.Refusal.{Refusal}
 use Rattle.gc_script.specs.State.{State, visible, over}
-use Rattle.gc_script.specs.Given.{given, given_value, named, Target, target, target_among, target_field, is_constant}
+use Rattle.gc_script.specs.Given.{given, given_value, named, Target, target, target_among, target_field, is_const, is_constant}
 use Rattle.gc_script.specs.Shapes.{CommandShape, plain, declaring, making, growing, collecting, showing, shape, reads, value_in, kept_as, write_target, throw_target, frame_value, global_value, pending_value}
 use Rattle.gc_script.specs.Shapes as shapes
 use Rattle.gc_script.specs.Given.{object_target, is_struct, is_array}
@@ -31,7 +31,7 @@ use Rattle.gc_script.specs.Steps.{Step, AnswersShape, Does, MakesNew, first_fail
 use Rattle.gc_script.specs.Run.{Run}
 use Rattle.gc_lists.specs.Kits.{IsCellType, IsNodeType}
 use Rattle.gc_lists.specs.Cells.{cell, node}
-use Rattle.gc_lists.specs.Constants.{KeepsConstants}
+use Rattle.gc_lists.specs.Constants.{IsMutable, KeepsConstants}
 use Rattle.gc_lists.proofs.Kept.{appended_keeps}
 
 keeps_same : (t u : Table ℕ) → u.types ≡ t.types → u.objects ≡ t.objects → KeepsConstants t u
@@ -116,6 +116,9 @@ module _ (t : Table ℕ) (position : ℕ) (object : Object ℕ) (here : slice_ge
     cells = λ p ty bits next of e. kept_at p (cell ty bits next) e (λ f. cell_stays t.types ty bits next i v of f);
     nodes = λ p ty key value height left right of e. kept_at p (node ty key value height left right) e (λ f. node_stays t.types ty key value height left right i v of f);
   }
+
+pub mutable_write : (t : Table ℕ) (position i : ℕ) (v : Value) → IsMutable t position i → KeepsConstants t (write position i v t)
+mutable_write t position i v is = write_found t position is.object is.object_is i v (ap is_constant is.field_is ∙ ap is_const is.mutable)
 
 write_keeps : (t : Table ℕ) (found : Option Target) (i : ℕ) (v : Value) → IsHere t.objects found → is_constant (target_field t found i) ≡ false → KeepsConstants t (write_target found i v t)
 write_keeps t None i v here free = keeps_same t t refl refl

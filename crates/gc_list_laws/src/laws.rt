@@ -7,9 +7,10 @@ ghost use Rattle.gc_commands.specs.declared.reply.Reply.{Reply};
 ghost use Rattle.gc_model.specs.Holds.{HoldsTable};
 ghost use Rattle.gc_model.specs.OwnedRoots.{owned_reference};
 ghost use Rattle.gc_model.specs.Stores.{StoreView};
-ghost use Rattle.gc_model.specs.Values.{Reference};
+ghost use Rattle.gc_model.specs.Table.{Table, write};
+ghost use Rattle.gc_model.specs.Values.{Reference, Value};
 ghost use Rattle.gc_values.specs.declared.root.GcRootIndex.{GcRootIndex};
-ghost use Rattle.gc_lists.specs.Constants.{KeepsConstants};
+ghost use Rattle.gc_lists.specs.Constants.{IsMutable, KeepsConstants};
 ghost use Rattle.gc_lists.specs.Lists.{IsList};
 ghost use Rattle.gc_lists.specs.Versions.{StandsForListOf, VersionNames};
 ghost use Rattle.gc_maps.specs.Maps.{IntMap, IsMap, StandsForMapOf};
@@ -38,8 +39,17 @@ pub fn runs_keep_lists()
         → Run layouts limit s cs answers u → IsMap s.table.types s.table.objects ty m r → IsMap u.table.types u.table.objects ty m r }
 {}
 
+/// The same of a value that is written, as every write asks that the value may be changed (`Store::write_value`).
+pub fn writes_keep_lists()
+    ensures constants { (t : Table ℕ) (position index : ℕ) (v : Value) → IsMutable t position index → KeepsConstants t (write position index v t) }
+    ensures lists { (t : Table ℕ) (position index : ℕ) (v : Value) (r : Reference) (xs : List ℤ) → IsMutable t position index
+        → IsList t.types t.objects r xs → IsList (write position index v t).types (write position index v t).objects r xs }
+    ensures maps { (t : Table ℕ) (position index : ℕ) (v : Value) (r : Reference) (ty : ℕ) (m : IntMap) → IsMutable t position index
+        → IsMap t.types t.objects ty m r → IsMap (write position index v t).types (write position index v t).objects ty m r }
+{}
+
 /// An owned root that is live before a script and after it names the same, whatever the script does. So a version of a list or a
-/// map that is live after it stands for that list or map still: only giving up the handles of its root ends this.
+/// map that is live after it stands for that list or map still.
 pub fn runs_keep_versions()
     ensures roots { (layouts : Layouts) (limit : Option ℕ) (store : StoreView ℕ) (s u : State) (cs : List Command) (answers : List Reply) (number : ℕ)
         (r r' : Reference) → HoldsTable layouts store s.table → Run layouts limit s cs answers u → owned_reference s.table number ≡ Some r

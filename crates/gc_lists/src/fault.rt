@@ -2,7 +2,8 @@
 
 use gc_store::GcHeapOutOfMemory;
 
-/// Why a call on a list or a map is refused. What comes first here is tested first.
+/// Why a call on a list or a map is refused. What comes first here is tested first, but that objects are made before the owned
+/// root of the new version: so `HeapOutOfMemory` may come where no further owned root may be made either.
 #[derive(Debug, Drop)]
 pub enum ListFault {
     /// The kit or the version is another store's.

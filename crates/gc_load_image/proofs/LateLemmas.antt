@@ -1,11 +1,14 @@
 -- References that are written late.
 use Rattle.std.proofs.Common.{inl, inr, ◌≡◌, ℕ, suc, ◌+◌, ◌<◌, ◌≤◌, true, List, [], ◌∷◌, map, length, take, Some, Result, Ok, Err, refl, sym, ap, ap₂, ◌∙◌, subst, arith}
-use Rattle.std.specs.Prelude.{option_map, slice_set}
+use Rattle.std.specs.Prelude.{Bool, ◌||◌, option_map, slice_set}
 use Rattle.std.specs.List.{slice_get}
 use Rattle.std.proofs.lemmas.Bool.{cases_eq, cases_lt}
 use Rattle.std.proofs.lemmas.List.{length-map, length-set, take_all}
 use Rattle.std.proofs.lemmas.Option.{none-some, same_Some, slice_get-map, slice_get_cases, slice_get_within}
 use Rattle.gc_types.specs.declared.kind.Layouts.{Layouts}
+use Rattle.gc_types.specs.declared.value.FieldType.{FieldType}
+use Rattle.gc_types.specs.declared.value.Mutability.{Mutability}
+use Rattle.gc_types.specs.declared.value.Mutability.TheVariants.{Const, Var}
 use Rattle.gc_types.specs.Declarations.{Declaration}
 use Rattle.gc_model.specs.Fits.{fits}
 use Rattle.gc_model.specs.Reach.{object_values}
@@ -29,7 +32,7 @@ use Rattle.gc_image.specs.declared.image.ImageValue.{ImageValue}
 use Rattle.gc_image.specs.declared.image.ImageValue.TheVariants as value
 use Rattle.gc_image.specs.declared.image.ObjectLine.{ObjectLine}
 use Rattle.gc_image.specs.declared.image.ObjectLine.TheVariants as object
-use Rattle.gc_image.specs.Well.{AreWellObjects, IsWellValue, as_object, as_value, line_values}
+use Rattle.gc_image.specs.Well.{AreWellObjects, IsWellValue, as_object, as_value, is_early, is_immutable, line_values, number_named, wants_object}
 use Rattle.gc_image.proofs.AlikeLemmas.{named_below}
 use Rattle.gc_load_image.specs.Stages.{AreWritten, Complete, LoadGoesOn, Making, Standing, StandsTo, Writing, early_object, early_objects, early_value, line_object}
 use Rattle.gc_load_image.proofs.EarlyLemmas.{AreMade, early_alike, early_at, early_length, made_alike, reference_stored}
@@ -143,6 +146,17 @@ written_over : (s : StoreView ℕ) (t : Table ℕ) (number index : ℕ) (v : Val
 written_over s t number index v h r (inl named) = inl (record { serial = named.serial; names = record { push = named.names.push; pushed = named.names.pushed; is = named.names.is }; live = named.live })
 written_over s t number index v h r (inr named) = inr (record { number = named.number; names = named.names; live = named.live })
 
+-- what isn't early may be changed
+mutable_unless : (m : Mutability) (rest : Bool) → ((is_immutable m || rest) ≡ true → ⊥) → m ≡ Var
+mutable_unless Const rest never = absurd (never refl)
+mutable_unless Var rest never = refl
+
+-- a value that names an object which was made no earlier may be changed
+late_is_mutable : (field : FieldType) (number named : ℕ) (v : ImageValue) → (is_early field ≡ true → (n : ℕ) → number_named v ≡ Some n → n < number)
+    → number_named v ≡ Some named → number ≤ named → field.mutability ≡ Var
+late_is_mutable field number named v early is late =
+    mutable_unless field.mutability (wants_object field.element_type) (λ found. let less = early found named is in omega (arith, less, late))
+
 module _ (layouts : Layouts) (lines : List ObjectLine) (handles : List GcRootIndex) (number index : ℕ) (s : StoreView ℕ) (w : Writing layouts lines handles number index s) (line : ObjectLine) (line_is : slice_get lines number ≡ Some line) (v : ImageValue) (v_is : slice_get (line_values line) index ≡ Some v) where
   abbrev t : Table ℕ
   t = w.table
@@ -237,8 +251,8 @@ module _ (layouts : Layouts) (lines : List ObjectLine) (handles : List GcRootInd
       field_here = ap (λ (o : Object ℕ). value_type t.types o index) stands.is ∙ line_object-type t.types line stands.values index
           ∙ ap (λ (ts : List Declaration). value_type ts (as_object line) index) (sym same_types) ∙ typed.field_is
 
-      pub may_write : CanWrite ℕ layouts s holder index given
-      may_write = record {
+      pub may_write : number ≤ named → CanWrite ℕ layouts s holder index given
+      may_write late = record {
         table = t;
         holds = (w.standing.holds.place, w.standing.holds.holds);
         before = early_value number v;
@@ -246,6 +260,7 @@ module _ (layouts : Layouts) (lines : List ObjectLine) (handles : List GcRootInd
         field = typed.field;
         field_is = field_here;
         can_store = can_store layouts s t (w.standing.holds.place, w.standing.holds.holds) typed.field.element_type given target stands_given fit_here;
+        mutable = late_is_mutable typed.field number named v typed.early (ap number_named is) late;
       }
 
       module _ (new : StoreView ℕ) (same : IsSameStore s new) (keeps : KeepsValue layouts s new t w.account holder index given) where

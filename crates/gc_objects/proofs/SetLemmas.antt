@@ -52,8 +52,8 @@ has_type s t handle index field typed = record {
 }
 
 -- a value that may be stored may be written where it is meant to go
-pub may_write : (D : Type 0) (layouts : Layouts) (s : StoreView D) (root : GcRootIndex) (index : ℕ) (field : FieldType) (v : Val) → IsTypedSomewhere D layouts s root index field → CanStoreAs D layouts s (Some field) v → CanWrite D layouts s root index (raw_of v)
-may_write D layouts s root index field v typed can = record {
+pub may_write : (D : Type 0) (layouts : Layouts) (s : StoreView D) (root : GcRootIndex) (index : ℕ) (field : FieldType) (v : Val) → IsTypedSomewhere D layouts s root index field → CanStoreAs D layouts s (Some field) v → field.mutability ≡ Var → CanWrite D layouts s root index (raw_of v)
+may_write D layouts s root index field v typed can mutable = record {
   table = typed.table;
   holds = typed.holds;
   before = typed.typed.value;
@@ -61,6 +61,7 @@ may_write D layouts s root index field v typed can = record {
   field = field;
   field_is = typed.typed.field_is;
   can_store = can;
+  mutable = mutable;
 }
 
 module _ {D : Type 0} (layouts : Layouts) (s new : StoreView D) (t : Table D) (a : Account) (root this : GcRootIndex) (same : root ≡ this) (index : ℕ) (v : Val) (Outside : GcRootIndex → Type 0)

@@ -2,6 +2,8 @@
 use Rattle.std.proofs.Common.{◌≡◌, ℕ, ◌<◌, ◌≤◌, List, [], ◌∷◌, ◌++◌, Option, Some, None, Bool, false, sym, ap, ◌∙◌, refl}
 use Rattle.gc_types.specs.declared.kind.Layouts.{Layouts}
 use Rattle.gc_types.specs.declared.value.FieldType.{FieldType}
+use Rattle.gc_types.specs.declared.value.Mutability.{Mutability}
+use Rattle.gc_types.specs.declared.value.Mutability.TheVariants.{Const, Var}
 use Rattle.gc_types.specs.Declarations.{Declaration}
 use Rattle.gc_owner.specs.declared.entry.GcClass.{GcClass}
 use Rattle.gc_model.specs.Values.{Reference, Value}
@@ -24,7 +26,7 @@ use Rattle.gc_script.specs.declared.objects.Wanted.{Wanted}
 use Rattle.gc_script.specs.declared.objects.Wanted.TheVariants as wanted
 use Rattle.gc_script.specs.Slots.{RunnerView}
 use Rattle.gc_script.specs.State.{State, Held, number, reference, RegisterStands, HoldsState, with_table, visible, over}
-use Rattle.gc_script.specs.Given.{Target, unset, given, given_register, given_held, given_root, given_value, is_unset, target, target_field}
+use Rattle.gc_script.specs.Given.{Target, unset, given, given_register, given_held, given_root, given_value, is_const, is_constant, is_unset, target, target_field}
 use Rattle.gc_script.specs.Steps.{first_failing, tests, bound_test, constant_test, value_tests, target_tests, writing_tests}
 use Rattle.gc_script.specs.Shapes.{CommandShape, plain, writes_value, kept_as, write_target}
 use Rattle.gc_script.specs.Run.{GoesUnasked}
@@ -54,10 +56,14 @@ is_set s t r (Some (number v)) stands = refl
 is_set s t r (Some (reference c None)) stands = refl
 is_set s t r (Some (reference c (Some serial))) stands = root_set c (rooted t serial)
 
--- a value that may be stored at an index of an object may be written there
-pub can_write : (layouts : Layouts) (store : StoreView ℕ) (kind : Wanted) (found : NamedObject) (i : ℕ) (value : RawValue) → IsNamedSomewhere layouts store kind found → i < found.count → (field : Option FieldType) → type_at store.types found.types i ≡ field → CanStoreRaw layouts store field value → CanWrite ℕ layouts store found.root i value
-can_write layouts store kind found i value is below None field_is can = absurd can
-can_write layouts store kind found i value is below (Some field) field_is can =
+is_var : (m : Mutability) → is_const m ≡ false → m ≡ Var
+is_var Const differ = absurd (cc differ)
+is_var Var differ = refl
+
+-- a value that may be stored at an index of an object may be written there, where that isn't constant
+pub can_write : (layouts : Layouts) (store : StoreView ℕ) (kind : Wanted) (found : NamedObject) (i : ℕ) (value : RawValue) → IsNamedSomewhere layouts store kind found → i < found.count → (field : Option FieldType) → type_at store.types found.types i ≡ field → CanStoreRaw layouts store field value → is_constant field ≡ false → CanWrite ℕ layouts store found.root i value
+can_write layouts store kind found i value is below None field_is can mutable = absurd can
+can_write layouts store kind found i value is below (Some field) field_is can mutable =
     let before = has_value store is.table found is.names i below in
     record {
       table = is.table;
@@ -67,6 +73,7 @@ can_write layouts store kind found i value is below (Some field) field_is can =
       field = field;
       field_is = is.names.typed i ∙ ap (λ (ts : List Declaration). type_at ts found.types i) (sym is.holds.1.types) ∙ field_is;
       can_store = can;
+      mutable = is_var field.mutability mutable;
     }
 
 module _ (layouts : Layouts) (store : StoreView ℕ) (s : State) (kind : Wanted) (r i : ℕ) (found : NamedObject) (it : FoundObject store s kind r found) where

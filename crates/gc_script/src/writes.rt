@@ -48,6 +48,7 @@ fn check_write<H: GcHeap>(
 ) -> Result<(), Refusal>
     ensures stores { OnOk result (CanStoreRaw H.KIND store.now (type_at store.now.types written.now.object.types index) written.now.value) }
     ensures plain { OnOk result (is_opaque written.now.value ≡ false) }
+    ensures mutable { OnOk result (is_constant (type_at store.now.types written.now.object.types index) ≡ false) }
     ensures checks { (s : State) (v : Operand) → HoldsTable H.KIND store.now s.table
         → RegisterStands store.now s.table (Some written.now.value) (held_operand s v)
         → ChecksWrite store.now s (type_at s.table.types written.now.object.types index) v written.now.value result }

@@ -2,6 +2,7 @@
 use Rattle.std.specs.Prelude.{◌≡◌, ℕ, ℤ, Bool, true, false, List, [], ◌∷◌, Some, None, Result, Ok, Err, length, slice_get}
 use Rattle.std.specs.Int.{w32, w64}
 use Rattle.gc_types.specs.declared.value.FieldType.{FieldType}
+use Rattle.gc_types.specs.declared.value.Mutability.TheVariants.{Var}
 use Rattle.gc_types.specs.declared.value.StorageType.{StorageType}
 use Rattle.gc_types.specs.declared.kind.Layouts.{Layouts}
 use Rattle.gc_owner.specs.declared.entry.GcClass.{GcClass}
@@ -94,7 +95,7 @@ ReadsValue layouts t a v (Err fault.Unrooted) new = ⊥
 ReadsValue layouts t a v (Err fault.RootsFull) new = (makes_root v ≡ true) × ((roots_full t ≡ true) × HoldsAccount layouts new t a)
 ReadsValue layouts t a v (Err fault.Memory) new = (makes_root v ≡ true) × HoldsAccount layouts new t a
 
--- a value may be written there: the handle names an object with a value at that index, of whose type it is
+-- a value may be written there: the handle names an object with a value at that index, which may be changed and of whose type it is
 pub record CanWrite (D : Type 0) (layouts : Layouts) (s : StoreView D) (handle : GcRootIndex) (index : ℕ) (r : RawValue) : Type 0 where
   pub table : Table D
   pub holds : HoldsTable layouts s table
@@ -103,6 +104,7 @@ pub record CanWrite (D : Type 0) (layouts : Layouts) (s : StoreView D) (handle :
   pub field : FieldType
   pub field_is : value_type table.types has.object index ≡ Some field
   pub can_store : CanStore D layouts s field.element_type r
+  pub mutable : field.mutability ≡ Var
 
 -- the object that the handle names in a table that the store held keeps the value there now, as its type says
 abbrev pub KeepsValue : {D : Type 0} → Layouts → StoreView D → StoreView D → Table D → Account → GcRootIndex → ℕ → RawValue → Type 0

@@ -19,7 +19,7 @@ use gc_values::stored::{stored_value, write_slot};
 
 impl<H: GcHeap, D: Drop> Store<H, D> {
     /// Writes a value at that index into the object that the handle names: into a field of a struct or an exception, or
-    /// an element of an array. Of a number that is wider than its slot the low bits are kept. It takes memory for a function
+    /// an element of an array. It has to be one that may be changed, so none of an exception. Of a number that is wider than its slot the low bits are kept. It takes memory for a function
     /// value or a continuation that is new to the store alone. `FuncTableFull` where the store has 2^31 function values, none of
     /// them this one; `ContTableFull` where it has as many continuations.
     pub fn write_value(

@@ -41,7 +41,7 @@ pub write_value-written-requires : goal.write_value-written-requires
 write_value-written-requires g c =
     let at = (goal.at.write_value-written-requires g c).After-late_reference in
     may_write g.H.GcHeap.KIND c.args.objects.now c.args.handles.now c.args.number c.args.index c.args.store.now c.requires.writing c.index-objects-number.result (line_is g at) c.index-values_of-index.result (value_is g at)
-    c.in-Some.class c.in-Some.named c.in-Some.ensures.0 c.requires.well c.handle_at-holder.result c.handle_at.result c.handle_at-holder.ensures c.handle_at.ensures
+    c.in-Some.class c.in-Some.named c.in-Some.ensures.0 c.requires.well c.handle_at-holder.result c.handle_at.result c.handle_at-holder.ensures c.handle_at.ensures c.in-Some.ensures.1
 
 pub returns-in-Some-clause-writing : goal.returns-in-Some-clause-writing
 returns-in-Some-clause-writing g c =

@@ -56,7 +56,7 @@ pub write-requires : goal.write-requires
 write-requires g c =
     may_write g.row.D.Denot g.H.GcHeap.KIND c.args.store.now c.root_index-root.result c.args.index c.element_of-element.result c.args.value
     (element_found g.H.GcHeap.KIND c.args.store.now c.root_index-root.result c.in-Ok.array c.in-Ok.ensures.found c.args.index c.element_of-element.result c.element_of-element.ensures c.if-index-array.false)
-    c.in-Ok-check_value.ensures.stores
+    c.in-Ok-check_value.ensures.stores (is_mutable c.element_of-element.result.mutability c.is_var.result c.if-not-is_var.false c.is_var.ensures)
 
 pub returns-clause-sets : goal.returns-clause-sets
 returns-clause-sets g c t a holds =

@@ -32,6 +32,7 @@ pub write-requires : goal.write-requires
 write-requires g c =
     may_write g.row.D.Denot g.H.GcHeap.KIND c.args.store.now c.root_index-root.result c.in-Some.named.index c.in-Some.named.field c.args.value
     (typed_found g.row.D.Denot g.H.GcHeap.KIND c.args.store.now c.root_index-root.result c.in-Ok.found c.in-Some.named c.in-Some.is c.in-Ok.ensures.typed) c.in-Ok-check_value.ensures.stores
+    (is_mutable c.in-Some.named.field.mutability c.is_var.result c.if-not-is_var.false c.is_var.ensures)
 
 pub returns-in-Ok-check_value-clause-sets : goal.returns-in-Ok-check_value-clause-sets
 returns-in-Ok-check_value-clause-sets g c t a holds =

@@ -34,7 +34,7 @@ returns-then-i-written-clause-goes g c s holds =
 pub write-requires-clause-can : goal.write-requires-clause-can
 write-requires-clause-can g c =
     can_write g.H.GcHeap.KIND c.args.store.now wanted.Array c.in-Ok.written.object c.args.i c.in-Ok.written.value c.in-Ok.ensures.named c.if-i-written.false
-    (type_at c.args.store.now.types c.in-Ok.written.object.types c.args.i) refl c.in_default.ensures.stores
+    (type_at c.args.store.now.types c.in-Ok.written.object.types c.args.i) refl c.in_default.ensures.stores c.in_default.ensures.mutable
 
 pub returns-clause-goes : goal.returns-clause-goes
 returns-clause-goes g c s holds =

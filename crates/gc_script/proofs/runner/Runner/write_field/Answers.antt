@@ -33,7 +33,7 @@ returns-in-Err-check_write-clause-goes g c s holds =
 pub write-requires-clause-can : goal.write-requires-clause-can
 write-requires-clause-can g c =
     can_write g.H.GcHeap.KIND c.args.store.now wanted.Struct c.in-Ok.written.object c.args.i c.in-Ok.written.value c.in-Ok.ensures.named c.if-i-written.false
-    (type_at c.args.store.now.types c.in-Ok.written.object.types c.args.i) refl c.in-Ok-check_write.ensures.stores
+    (type_at c.args.store.now.types c.in-Ok.written.object.types c.args.i) refl c.in-Ok-check_write.ensures.stores c.in-Ok-check_write.ensures.mutable
 
 pub returns-in-Ok-check_write-clause-goes : goal.returns-in-Ok-check_write-clause-goes
 returns-in-Ok-check_write-clause-goes g c s holds =
