@@ -4,14 +4,15 @@ ghost use Rattle.std.specs.Prelude.{ℕ, IfOk};
 ghost use Rattle.gc_types.specs.declared.kind.VMGcKind.{VMGcKind};
 ghost use Rattle.gc_store.specs.Kinds.{NamesKind};
 
-use crate::page::Page;
+use crate::answers::{TypeAnswer, show_read};
 use crate::setup::{ample, exceptions};
 use gc_heap::GcHeap;
 use gc_objects::{ExnRef, StoreExn, ThrowFault, Val};
 use gc_rooted::Rooted;
 use gc_store::Store;
 use gc_types::Tag;
-use run_faults::{Result, RunFault};
+use run_faults::{Page, Result, RunFault};
+use std::fmt;
 
 /// The tag of the exceptions.
 pub(crate) const TAG: Tag = Tag {
@@ -30,52 +31,79 @@ fn new_exception<H: GcHeap>(store: &mut Store<H, u64>) -> Result<Rooted<ExnRef>>
     }
 }
 
-/// Asks for an exception's tag and type.
-fn ask<H: GcHeap>(page: &mut Page, store: &mut Store<H, u64>) -> Result<()> {
+/// An exception's tag and type.
+#[derive(Clone, Copy)]
+struct ExceptionAnswer {
+    tag: Tag,
+    ty: TypeAnswer,
+}
+
+impl fmt::Display for ExceptionAnswer {
+    fn fmt<W: fmt::Write>(&self, f: &mut fmt::Formatter<W>) -> fmt::Result {
+        write!(
+            f,
+            "tag {} {}\n{}",
+            self.tag.instance, self.tag.index, self.ty
+        )
+    }
+}
+
+/// Asks for a new exception's tag and type.
+fn ask<H: GcHeap>(store: &mut Store<H, u64>) -> Result<ExceptionAnswer> {
     let handle = new_exception(store)?;
     let tag = ExnRef::tag(store, &handle)?;
-    let written = writeln!(page.text, "tag {} {}", tag.instance, tag.index);
-    page.keep(written);
     let ty = ExnRef::ty(store, &handle)?;
-    let matches = ExnRef::matches_ty(store, &handle, &ty)?;
-    page.show_type(ty.index().as_u32(), matches);
-    Ok(())
+    let matched = ExnRef::matches_ty(store, &handle, &ty)?;
+    let ty = ty.index().as_u32();
+    Ok(ExceptionAnswer {
+        tag,
+        ty: TypeAnswer { ty, matched },
+    })
 }
 
 /// Reads a field of an exception.
-fn read<H: GcHeap>(page: &mut Page, store: &mut Store<H, u64>, index: u32) -> Result<()> {
-    let handle = new_exception(store)?;
-    let answer = ExnRef::field(store, &handle, index as usize);
-    page.show_read("field", index, answer);
-    Ok(())
+fn read<H: GcHeap>(page: &mut Page, store: &mut Store<H, u64>, index: u32) {
+    match new_exception(store) {
+        Ok(handle) => {
+            let answer = ExnRef::field(store, &handle, index as usize);
+            show_read(page, "field", index, answer);
+        }
+        Err(fault) => page.stop(fault),
+    }
 }
 
 /// Shows whether an exception was pending, which is none any more.
-fn take<H: GcHeap>(page: &mut Page, store: &mut Store<H, u64>) -> Result<()> {
-    match store.take_pending_exception()? {
-        Some(_) => page.show("an exception is taken"),
-        None => page.show("nothing is pending"),
+fn take<H: GcHeap>(page: &mut Page, store: &mut Store<H, u64>) {
+    match store.take_pending_exception() {
+        Ok(Some(_)) => page.show("an exception is taken"),
+        Ok(None) => page.show("nothing is pending"),
+        Err(fault) => page.stop(fault.into()),
     }
-    Ok(())
 }
 
-/// Throws an exception, and takes it once.
-fn throw<H: GcHeap>(page: &mut Page, store: &mut Store<H, u64>) -> Result<()> {
-    let handle = new_exception(store)?;
-    let thrown: Result<u64, ThrowFault> = store.throw(handle);
+/// Throws an exception.
+fn throw<H: GcHeap>(page: &mut Page, store: &mut Store<H, u64>) {
+    match new_exception(store) {
+        Ok(handle) => show_thrown(page, store.throw(handle)),
+        Err(fault) => page.stop(fault),
+    }
+}
+
+/// Shows what a throw answers.
+fn show_thrown(page: &mut Page, thrown: Result<u64, ThrowFault>) {
     let written = match thrown {
         Ok(value) => writeln!(page.text, "throw: {value}"),
         Err(fault) => writeln!(page.text, "throw: {fault}"),
     };
     page.keep(written);
-    take(page, store)?;
-    take(page, store)
 }
 
-/// Makes exceptions, asks for their tag and type, reads their fields, and throws one.
-pub(crate) fn run_exceptions<H: GcHeap>(page: &mut Page, store: &mut Store<H, u64>) -> Result<()> {
-    ask(page, store)?;
-    read(page, store, 0)?;
-    read(page, store, 1)?;
-    throw(page, store)
+/// Makes exceptions, asks for their tag and type, reads their fields, throws one, and takes it once.
+pub(crate) fn run_exceptions<H: GcHeap>(page: &mut Page, store: &mut Store<H, u64>) {
+    page.show_found(ask(store));
+    read(page, store, 0);
+    read(page, store, 1);
+    throw(page, store);
+    take(page, store);
+    take(page, store);
 }

@@ -1,12 +1,12 @@
 //! Owned roots with two handles.
 
-use crate::page::Page;
+use crate::answers::show_root;
 use gc_heap::GcHeap;
 use gc_objects::AnyRef;
 use gc_refs::I31;
 use gc_rooted::OwnedRooted;
-use gc_store::Store;
-use run_faults::Result;
+use gc_store::{RootFault, Store};
+use run_faults::{Page, Result};
 
 /// Gives a handle up.
 fn give_up<H: GcHeap>(page: &mut Page, store: &mut Store<H, u64>, handle: OwnedRooted<AnyRef>) {
@@ -25,32 +25,37 @@ fn give_both_up<H: GcHeap>(
 ) {
     give_up(page, store, early);
     store.gc();
-    page.show_root("to_rooted", late.to_rooted(store));
+    show_root(page, "to_rooted", late.to_rooted(store));
     give_up(page, store, late);
 }
 
-/// Makes an owned root with two handles, and gives them up in that order or the other way round.
-fn give_in_turn<H: GcHeap>(
-    page: &mut Page,
+/// Makes an owned root with two handles.
+fn new_handles<H: GcHeap>(
     store: &mut Store<H, u64>,
-    is_turned: bool,
-) -> Result<()> {
+) -> Result<(OwnedRooted<AnyRef>, OwnedRooted<AnyRef>), RootFault> {
     let rooted = AnyRef::from_i31(store, I31::wrapping_u32(4))?;
     let made = rooted.to_owned_rooted(store)?;
     let cloned = made.clone_in(store)?;
     store.exit_gc_lifo_scope(0);
-    if is_turned {
-        give_both_up(page, store, cloned, made);
-    } else {
+    Ok((made, cloned))
+}
+
+/// Makes an owned root with two handles, and gives up first the one that was made first.
+fn give_in_order<H: GcHeap>(page: &mut Page, store: &mut Store<H, u64>) {
+    if let Some((made, cloned)) = page.found(new_handles(store)) {
         give_both_up(page, store, made, cloned);
     }
-    Ok(())
+}
+
+/// Makes an owned root with two handles, and gives them up the other way round.
+fn give_turned<H: GcHeap>(page: &mut Page, store: &mut Store<H, u64>) {
+    if let Some((made, cloned)) = page.found(new_handles(store)) {
+        give_both_up(page, store, cloned, made);
+    }
 }
 
 /// An owned root stands until the second of its handles is given up, whichever that is.
-pub(crate) fn run_owned<H: GcHeap>(page: &mut Page, store: &mut Store<H, u64>) -> Result<()> {
-    for is_turned in [false, true] {
-        give_in_turn(page, store, is_turned)?;
-    }
-    Ok(())
+pub(crate) fn run_owned<H: GcHeap>(page: &mut Page, store: &mut Store<H, u64>) {
+    give_in_order(page, store);
+    give_turned(page, store);
 }

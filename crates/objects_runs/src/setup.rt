@@ -9,11 +9,11 @@ ghost use Rattle.gc_objects.specs.Kinds.{IsDeclaredAs};
 use gc_heap::GcHeap;
 use gc_objects::{AnyRef, ArrayRef, ArrayRefPre, ExnRefPre, StructRef, StructRefPre, Val};
 use gc_rooted::Rooted;
-use gc_store::{PageLimit, Store};
+use gc_store::{PageLimit, RootFault, Store};
 use gc_types::{
     FieldType, HeapType, Mutability, RefType, StorageType, TypeFault, VMSharedTypeIndex, ValType,
 };
-use run_faults::{Result, RunFault};
+use run_faults::{Fact, Result, RunFault};
 
 /// The type of structs of an 8-bit integer, a constant 64-bit one and a reference.
 pub(crate) const STRUCT: u32 = 0;
@@ -160,6 +160,16 @@ pub(crate) fn exceptions<H: GcHeap>(store: &mut Store<H, u64>) -> Result<ExnRefP
         Some(ty) => Ok(ExnRefPre::new(store, ty)?),
         None => return Err(RunFault::NoType),
     }
+}
+
+/// Whether a value fits a type, by that name.
+pub(crate) fn fit<H: GcHeap>(
+    store: &Store<H, u64>,
+    name: &'static str,
+    value: &Val,
+    ty: &ValType,
+) -> Result<Fact<bool>, RootFault> {
+    Ok(Fact(name, value.matches_ty(store, ty)?))
 }
 
 /// A new struct of that type.

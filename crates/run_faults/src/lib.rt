@@ -1,12 +1,17 @@
 //! Why a program that runs cases over typed handles stops: what a case takes for granted isn't so, or a call answers a
-//! fault that no case is about.
+//! fault that no case is about. And the page on which it shows what its cases find, which keeps the first of these.
 //!
 //! It promises no more than its texts.
 #![tactic(auto)]
 
+mod facts;
+mod page;
+
+pub use facts::{Both, Fact, Lines, Tests};
 use gc_objects::{AccessFault, AllocFault};
 use gc_store::{HostDataFault, PlaceHostFault, RootFault, SlotFault};
 use gc_types::TypeFault;
+pub use page::Page;
 use std::alloc::AllocError;
 use std::io;
 use thiserror::Error;
@@ -18,8 +23,6 @@ pub enum RunFault {
     NoConfiguration,
     #[error("there is no such type")]
     NoType,
-    #[error("there is no such function")]
-    NoFunction,
     #[error("a word or a field is no reference")]
     NoReference,
     #[error("a handle names no such object")]

@@ -2,7 +2,8 @@
 
 use gc_paths::{PathEntry, PathFault, PathParent};
 use gc_store::RootName;
-use std::{fmt, io};
+use run_faults::{Page, Result};
+use std::fmt;
 
 /// Where the path of an entry comes from: a root by its name, or a value of an earlier entry.
 #[derive(Clone, Copy)]
@@ -17,55 +18,56 @@ impl fmt::Display for Origin {
     }
 }
 
+/// Shows a kind of roots, and which of them it is.
+fn show_numbered<W: fmt::Write>(kind: &str, number: u32, f: &mut fmt::Formatter<W>) -> fmt::Result {
+    write!(f, "{kind} {number}")
+}
+
 /// Shows which root it is.
 fn show_root<W: fmt::Write>(name: RootName, f: &mut fmt::Formatter<W>) -> fmt::Result {
     match name {
-        RootName::Global(index) => write!(f, "global {index}"),
-        RootName::Pending => write!(f, "pending"),
+        RootName::Global(index) => show_numbered("global", index, f),
+        RootName::Pending => f.write_str("pending"),
         RootName::Slot { frame, slot } => write!(f, "slot {frame} {slot}"),
-        RootName::Owned(id) => write!(f, "owned {id}"),
-        RootName::Scoped(index) => write!(f, "scoped {index}"),
+        RootName::Owned(id) => show_numbered("owned", id, f),
+        RootName::Scoped(index) => show_numbered("scoped", index, f),
     }
 }
 
 /// Shows where an object's path comes from, and how long it is.
-fn show_entry(rt: &impl Print, number: usize, entry: &PathEntry) -> io::Result<()> {
+fn show_entry(page: &mut Page, number: usize, entry: &PathEntry) {
     let origin = Origin(entry.parent);
     let length = entry.length;
-    println!(rt; "{number} {origin}, length {length}")
+    let written = writeln!(page.text, "{number} {origin}, length {length}");
+    page.keep(written);
 }
 
 /// Shows where each object's path comes from, and how long it is.
-fn show_entries(rt: &impl Print, entries: &[PathEntry]) -> io::Result<()> {
+fn show_entries(page: &mut Page, entries: &[PathEntry]) {
     for (number, entry) in entries.iter().enumerate() {
-        show_entry(rt, number, entry)?;
+        show_entry(page, number, entry);
     }
-    Ok(())
 }
 
 /// Shows what the search of all paths answers.
-pub(crate) fn show_report(
-    rt: &impl Print,
-    name: &str,
-    answer: Result<Vec<PathEntry>, PathFault>,
-) -> io::Result<()> {
-    println!(rt; "{name}")?;
+pub(crate) fn show_report(page: &mut Page, name: &str, answer: Result<Vec<PathEntry>, PathFault>) {
+    page.show(name);
     match answer {
-        Ok(entries) => show_entries(rt, &entries),
-        Err(fault) => println!(rt; "{fault:?}"),
+        Ok(entries) => show_entries(page, &entries),
+        Err(fault) => page.show_debug(&fault),
     }
 }
 
 /// Shows what the search of a path to one object answers.
 pub(crate) fn show_path(
-    rt: &impl Print,
+    page: &mut Page,
     name: &str,
     answer: Result<Option<Vec<PathEntry>>, PathFault>,
-) -> io::Result<()> {
-    println!(rt; "{name}")?;
+) {
+    page.show(name);
     match answer {
-        Ok(Some(entries)) => show_entries(rt, &entries),
-        Ok(None) => println!(rt; "no path"),
-        Err(fault) => println!(rt; "{fault:?}"),
+        Ok(Some(entries)) => show_entries(page, &entries),
+        Ok(None) => page.show("no path"),
+        Err(fault) => page.show_debug(&fault),
     }
 }

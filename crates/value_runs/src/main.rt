@@ -23,7 +23,7 @@ mod words;
 use crate::parts::{Part, run_on};
 use crate::texts::run_traced;
 use gc_types::Layouts;
-use run_faults::Result;
+use run_faults::{Page, Result};
 use std::alloc::Global;
 
 /// A step of the program.
@@ -72,18 +72,25 @@ const STEPS: [Step; 30] = [
 ];
 
 /// Does a step.
-fn do_step(rt: &impl Print, alloc: Global, step: Step) -> Result<()> {
+fn do_step(page: &mut Page, alloc: Global, step: Step) {
     match step {
-        Step::Titles(title) => Ok(println!(rt; "{title}")?),
-        Step::Runs(kind, part) => run_on(rt, alloc, kind, part),
-        Step::Traces => run_traced(rt, alloc),
+        Step::Titles(title) => page.show(title),
+        Step::Runs(kind, part) => run_on(page, alloc, kind, part),
+        Step::Traces => run_traced(page, alloc),
     }
 }
 
-fn main(rt: HostRuntime) -> Result<()> {
-    let alloc = rt.alloc();
+/// What is printed.
+fn shown(alloc: Global) -> Result<String> {
+    let mut page = Page::new(alloc);
     for step in STEPS {
-        do_step(&rt, alloc, step)?;
+        do_step(&mut page, alloc, step);
     }
+    page.finish()
+}
+
+fn main(rt: HostRuntime) -> Result<()> {
+    let text = shown(rt.alloc())?;
+    print!(rt; "{text}")?;
     Ok(())
 }

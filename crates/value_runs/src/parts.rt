@@ -5,21 +5,21 @@ ghost use Rattle.gc_view.specs.Heaps.{detached};
 
 use crate::asked::run_asked;
 use crate::graphs::{run_chain, run_depth, run_few_roots, run_shared, run_without};
-use crate::hashes::run_owned_hashes;
-use crate::raw::{run_owned_word, run_pushed, run_words};
-use crate::read::{run_array, run_exception, run_struct};
+use crate::hashes::owned_hashes;
+use crate::raw::{owned_word, pushed, run_words};
+use crate::read::{array_read, exception_read, struct_read};
 use crate::refused::{run_foreign, run_given_up, run_left};
 use crate::rounds::{run_collected, run_counted, run_dropped, run_forgotten, run_many};
 use crate::setup::declare_types;
 use crate::texts::{run_refused, run_texts};
-use crate::types::{run_bound, run_subtypes, run_wide};
-use crate::words::{run_numbers, run_or_null, run_owned, run_references};
+use crate::types::{bound_alike, run_subtypes, widened_alike};
+use crate::words::{numbers, owned_references, references, references_or_null};
 use gc_copying::CopyingHeap;
 use gc_drc::DrcHeap;
 use gc_heap::{GcHeap, NullHeap};
 use gc_store::{HeapConfig, Store, StoreId};
 use gc_types::Layouts;
-use run_faults::{Result, RunFault};
+use run_faults::{Page, RunFault};
 use std::alloc::Global;
 
 /// The id of each store.
@@ -64,100 +64,102 @@ impl Part {
 }
 
 /// Makes the calls that show words, hashes, types and texts: first those that take a heap not to be made, and to have no root.
-fn run_surface<H: GcHeap>(rt: &impl Print, store: &mut Store<H, u64>) -> Result<()> {
-    run_refused(rt, store)?;
-    run_texts(rt, store)?;
-    run_subtypes(rt, store)?;
-    run_words(rt, store)?;
-    run_owned_word(rt, store)?;
-    run_pushed(rt, store)?;
-    run_owned_hashes(rt, store)?;
-    run_wide(rt, store)?;
-    run_bound(rt, store)
+fn run_surface<H: GcHeap>(page: &mut Page, store: &mut Store<H, u64>) {
+    run_refused(page, store);
+    run_texts(page, store);
+    run_subtypes(page, store);
+    run_words(page, store);
+    page.show_found(owned_word(store));
+    page.show_found(pushed(store));
+    page.show_found(owned_hashes(store));
+    page.show_found(widened_alike(store));
+    page.show_found(bound_alike(store));
 }
 
 /// Makes the calls that read values, and store and load them as raw words.
-fn run_values<H: GcHeap>(rt: &impl Print, store: &mut Store<H, u64>) -> Result<()> {
-    run_struct(rt, store)?;
-    run_array(rt, store)?;
-    run_exception(rt, store)?;
-    run_references(rt, store)?;
-    run_owned(rt, store)?;
-    run_or_null(rt, store)?;
-    run_numbers(rt, store)?;
-    run_asked(rt, store)?;
-    run_left(rt, store)?;
-    run_foreign(rt, store)?;
-    run_given_up(rt, store)
+fn run_values<H: GcHeap>(page: &mut Page, store: &mut Store<H, u64>) {
+    page.show_found(struct_read(store));
+    page.show_found(array_read(store));
+    page.show_found(exception_read(store));
+    page.show_found(references(store));
+    page.show_found(owned_references(store));
+    page.show_found(references_or_null(store));
+    page.show_found(numbers(store));
+    run_asked(page, store);
+    run_left(page, store);
+    run_foreign(page, store);
+    run_given_up(page, store);
 }
 
 /// Makes each call that shows something.
-fn run_calls<H: GcHeap>(rt: &impl Print, store: &mut Store<H, u64>) -> Result<()> {
-    declare_types(store)?;
-    run_surface(rt, store)?;
-    run_values(rt, store)
+fn run_calls<H: GcHeap>(page: &mut Page, store: &mut Store<H, u64>) {
+    page.keep(declare_types(store));
+    run_surface(page, store);
+    run_values(page, store);
 }
 
 /// Collects in increments.
-fn run_rounds<H: GcHeap + Drop>(rt: &impl Print, store: &mut Store<H, u64>) -> Result<()> {
-    run_dropped(rt, store)?;
-    run_collected(rt, store)?;
-    run_counted(rt, store)
+fn run_rounds<H: GcHeap + Drop>(page: &mut Page, store: &mut Store<H, u64>) {
+    run_dropped(page, store);
+    run_collected(page, store);
+    run_counted(page, store);
 }
 
 /// Collects in increments, many objects at the end.
-fn run_more_rounds<H: GcHeap + Drop>(rt: &impl Print, store: &mut Store<H, u64>) -> Result<()> {
-    run_rounds(rt, store)?;
-    run_many(rt, store)
+fn run_more_rounds<H: GcHeap + Drop>(page: &mut Page, store: &mut Store<H, u64>) {
+    run_rounds(page, store);
+    run_many(page, store);
 }
 
 /// Asks for the paths of a chain.
-fn run_chains<H: GcHeap>(rt: &impl Print, alloc: Global, store: &mut Store<H, u64>) -> Result<()> {
-    run_chain(rt, alloc, store)?;
-    run_without(rt, alloc, store)
+fn run_chains<H: GcHeap>(page: &mut Page, alloc: Global, store: &mut Store<H, u64>) {
+    run_chain(page, alloc, store);
+    run_without(page, alloc, store);
 }
 
 /// Asks for the paths of shared objects.
-fn run_lengths<H: GcHeap>(rt: &impl Print, alloc: Global, store: &mut Store<H, u64>) -> Result<()> {
-    run_shared(rt, alloc, store)?;
-    run_depth(rt, alloc, store)
+fn run_lengths<H: GcHeap>(page: &mut Page, alloc: Global, store: &mut Store<H, u64>) {
+    run_shared(page, alloc, store);
+    run_depth(page, alloc, store);
 }
 
 /// Runs a part on a new store.
 fn run_part<H: GcHeap + Drop>(
-    rt: &impl Print,
+    page: &mut Page,
     alloc: Global,
     store: &mut Store<H, u64>,
     part: Part,
-) -> Result<()> {
+) {
     match part {
-        Part::Values => run_calls(rt, store),
-        Part::Rounds => run_rounds(rt, store),
-        Part::ManyRounds => run_more_rounds(rt, store),
-        Part::Forgotten => run_forgotten(rt, store),
-        Part::Chains => run_chains(rt, alloc, store),
-        Part::Lengths => run_lengths(rt, alloc, store),
-        Part::FewRoots => run_few_roots(rt, alloc, store),
+        Part::Values => run_calls(page, store),
+        Part::Rounds => run_rounds(page, store),
+        Part::ManyRounds => run_more_rounds(page, store),
+        Part::Forgotten => run_forgotten(page, store),
+        Part::Chains => run_chains(page, alloc, store),
+        Part::Lengths => run_lengths(page, alloc, store),
+        Part::FewRoots => run_few_roots(page, alloc, store),
     }
 }
 
 /// Runs a part on a store over that heap.
-fn run_over<H: GcHeap + Drop>(rt: &impl Print, alloc: Global, heap: H, part: Part) -> Result<()>
+fn run_over<H: GcHeap + Drop>(page: &mut Page, alloc: Global, heap: H, part: Part)
     requires sound { H.sound heap }
     requires empty { H.seen heap ≡ detached }
 {
     let Some(config) = HeapConfig::new(1, part.max_scoped(), OWNED_ROOTS, None) else {
-        return Err(RunFault::NoConfiguration);
+        return page.stop(RunFault::NoConfiguration);
     };
-    let mut store = Store::<H, u64>::new(alloc, STORE, heap, config)?;
-    run_part(rt, alloc, &mut store, part)
+    match Store::<H, u64>::new(alloc, STORE, heap, config) {
+        Ok(mut store) => run_part(page, alloc, &mut store, part),
+        Err(fault) => page.stop(fault.into()),
+    }
 }
 
 /// Runs a part on a store over a heap of that kind.
-pub(crate) fn run_on(rt: &impl Print, alloc: Global, kind: Layouts, part: Part) -> Result<()> {
+pub(crate) fn run_on(page: &mut Page, alloc: Global, kind: Layouts, part: Part) {
     match kind {
-        Layouts::Null => run_over(rt, alloc, NullHeap::new(alloc), part),
-        Layouts::Counting => run_over(rt, alloc, DrcHeap::new(alloc), part),
-        Layouts::Copying => run_over(rt, alloc, CopyingHeap::new(alloc), part),
+        Layouts::Null => run_over(page, alloc, NullHeap::new(alloc), part),
+        Layouts::Counting => run_over(page, alloc, DrcHeap::new(alloc), part),
+        Layouts::Copying => run_over(page, alloc, CopyingHeap::new(alloc), part),
     }
 }

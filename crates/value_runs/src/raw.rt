@@ -1,70 +1,64 @@
-//! References by their raw words, and hashes of scoped roots.
+//! References by their raw words.
 
+use crate::hashes::{are_hashed_alike, are_roots_hashed_alike};
 use crate::setup::new_host;
+use crate::words::Again;
 use gc_heap::GcHeap;
 use gc_objects::ExternRef;
 use gc_rooted::{OwnedRooted, Rooted, RootedGcRef, ref_eq};
-use gc_store::{GcRootIndex, Store};
-use run_faults::{Result, RunFault};
-use std::hash::{FoldHasher, Hasher};
+use gc_store::{GcRootIndex, RootFault, Store};
+use run_faults::{Both, Fact, Lines, Page, Result, RunFault, Tests};
 
-/// What a hasher has after the reference of a handle.
-pub(crate) fn hash_of<H: GcHeap>(store: &Store<H, u64>, handle: &Rooted<ExternRef>) -> Result<u64> {
-    let mut hasher = FoldHasher::default();
-    handle.ref_hash(store, &mut hasher)?;
-    Ok(hasher.finish())
-}
+/// Whether two handles name the same, and whether they and a copy of the first hash alike.
+type Compared = Both<Tests, Fact<bool>>;
 
-/// What a hasher has after the root of a handle.
-fn root_hash_of(handle: &Rooted<ExternRef>) -> u64 {
-    let mut hasher = FoldHasher::default();
-    handle.rooted_hash(&mut hasher);
-    hasher.finish()
-}
-
-/// Shows whether two handles name the same, and whether they and a copy of the first hash alike.
-fn show_same<H: GcHeap>(
-    rt: &impl Print,
+/// Compares two handles, and a copy of the first with it.
+fn compare<H: GcHeap>(
     store: &Store<H, u64>,
     first: Rooted<ExternRef>,
     second: Rooted<ExternRef>,
-) -> Result<()> {
+) -> Result<Compared, RootFault> {
     let same = ref_eq(store, &first, &second)?;
-    let alike = hash_of(store, &first)? == hash_of(store, &second)?;
+    let alike = are_hashed_alike(store, &first, &second)?;
     let copy = first;
-    let copied = root_hash_of(&first) == root_hash_of(&copy);
-    println!(rt; "same: {same}, hashed alike: {alike}, a copy: {copied}")?;
-    Ok(())
+    let copied = are_roots_hashed_alike(&first, &copy);
+    let tests = Both(Fact("same", same), Fact("hashed alike", alike));
+    Ok(Both(tests, Fact("a copy", copied)))
 }
 
-/// Makes a host object, and a handle of its word; and of the word of null.
-pub(crate) fn run_words<H: GcHeap>(rt: &impl Print, store: &mut Store<H, u64>) -> Result<()> {
+/// Makes a handle of the word of a host object: how many roots were made, and what is alike of both.
+fn word_again<H: GcHeap>(store: &mut Store<H, u64>) -> Result<Lines<Fact<u64>, Compared>> {
     let host = new_host(store, 7)?;
     let left = store.roots_left();
     let word = ExternRef::to_raw(store, &host)?;
-    let found = ExternRef::from_raw(store, word)?;
-    println!(rt; "roots made: {}", left.saturating_sub(store.roots_left()))?;
-    show_same(rt, store, host, found.ok_or(RunFault::NoReference)?)?;
-    let null = ExternRef::from_raw(store, 0)?;
-    println!(rt; "null is none: {}", null.is_none())?;
-    Ok(())
+    let found = ExternRef::from_raw(store, word)?.ok_or(RunFault::NoReference)?;
+    let made = left.saturating_sub(store.roots_left());
+    let compared = compare(store, host, found)?;
+    Ok(Lines(Fact("roots made", made), compared))
+}
+
+/// Makes a handle of the word of a host object, and of the word of null.
+pub(crate) fn run_words<H: GcHeap>(page: &mut Page, store: &mut Store<H, u64>) {
+    page.show_found(word_again(store));
+    if let Some(null) = page.found(ExternRef::from_raw(store, 0)) {
+        page.show(Fact("null is none", null.is_none()));
+    }
 }
 
 /// Makes an owned root for the word of a host object, which makes no scoped one.
-pub(crate) fn run_owned_word<H: GcHeap>(rt: &impl Print, store: &mut Store<H, u64>) -> Result<()> {
+pub(crate) fn owned_word<H: GcHeap>(store: &mut Store<H, u64>) -> Result<Lines<Fact<u64>, Tests>> {
     let host = new_host(store, 8)?;
     let left = store.roots_left();
     let word = ExternRef::to_raw(store, &host)?;
     let found = OwnedRooted::<ExternRef>::from_word(store, word)?;
-    println!(rt;
-        "scoped roots made: {}",
-        left.saturating_sub(store.roots_left())
-    )?;
+    let made = left.saturating_sub(store.roots_left());
     let owned = found.ok_or(RunFault::NoReference)?;
     let same = ref_eq(store, &host, &owned)?;
     let given_up = owned.unroot(store).is_ok();
-    println!(rt; "same: {same}, given up: {given_up}")?;
-    Ok(())
+    Ok(Lines(
+        Fact("scoped roots made", made),
+        Both(Fact("same", same), Fact("given up", given_up)),
+    ))
 }
 
 /// Reserves room for two roots, and pushes one for the word of what a root names.
@@ -76,12 +70,11 @@ fn push_again<H: GcHeap>(store: &mut Store<H, u64>, root: GcRootIndex) -> Result
 }
 
 /// Pushes a root for the word of a host object; the room that is reserved is no root.
-pub(crate) fn run_pushed<H: GcHeap>(rt: &impl Print, store: &mut Store<H, u64>) -> Result<()> {
+pub(crate) fn pushed<H: GcHeap>(store: &mut Store<H, u64>) -> Result<Again> {
     let host = new_host(store, 9)?;
     let left = store.roots_left();
     let found = push_again(store, host.root_index())?;
     let made = left.saturating_sub(store.roots_left());
     let same = store.index_eq(host.root_index(), found)?;
-    println!(rt; "pushed, the same: {same}, roots made: {made}")?;
-    Ok(())
+    Ok(Both(Fact("pushed, the same", same), Fact("roots made", made)))
 }

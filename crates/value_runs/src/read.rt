@@ -8,6 +8,28 @@ use gc_objects::{ArrayRef, ExnRef, StructRef, Upcast, Val};
 use gc_rooted::Rooted;
 use gc_store::Store;
 use run_faults::Result;
+use std::fmt;
+
+/// What is found where the values of an object are read: how many there are, of what, their digits, and how many roots were made.
+#[derive(Clone, Copy)]
+pub(crate) struct ValuesRead {
+    count: usize,
+    of: &'static str,
+    digits: u64,
+    roots: u64,
+}
+
+impl fmt::Display for ValuesRead {
+    fn fmt<W: fmt::Write>(&self, f: &mut fmt::Formatter<W>) -> fmt::Result {
+        let ValuesRead {
+            count,
+            of,
+            digits,
+            roots,
+        } = *self;
+        write!(f, "{count} {of}: {digits}\nroots made: {roots}")
+    }
+}
 
 /// A digit for a value: a number and a function by themselves, 8 for a reference, 9 for null and 0 for any other.
 fn digit_of(value: &Val) -> u64 {
@@ -37,47 +59,53 @@ fn any_of(handle: Rooted<ArrayRef>) -> Val {
     Val::AnyRef(Some(handle.to_anyref()))
 }
 
-/// Shows how many roots were made since so many might still be made.
-fn show_roots<H: GcHeap>(rt: &impl Print, store: &Store<H, u64>, before: u64) -> Result<()> {
-    println!(rt; "roots made: {}", before.saturating_sub(store.roots_left()))?;
-    Ok(())
-}
-
 /// Reads a struct of a number, a function, null and a 31-bit number, once another function was written.
-pub(crate) fn run_struct<H: GcHeap>(rt: &impl Print, store: &mut Store<H, u64>) -> Result<()> {
+pub(crate) fn struct_read<H: GcHeap>(store: &mut Store<H, u64>) -> Result<ValuesRead> {
     let inner = new_array(store, &[])?;
-    let values = [Val::I32(1), function(2)?, Val::AnyRef(None), any_of(inner)];
+    let values = [Val::I32(1), function(2), Val::AnyRef(None), any_of(inner)];
     let made = new_struct(store, STRUCT, &values)?;
     let before = store.roots_left();
     let fields = StructRef::fields(store, &made)?;
-    let len = fields.len();
+    let count = fields.len();
     let digits = digits_of(fields);
-    println!(rt; "{len} fields: {digits}")?;
-    show_roots(rt, store, before)
+    Ok(ValuesRead {
+        count,
+        of: "fields",
+        digits,
+        roots: before.saturating_sub(store.roots_left()),
+    })
 }
 
 /// Reads an array of null, of a reference, and of none.
-pub(crate) fn run_array<H: GcHeap>(rt: &impl Print, store: &mut Store<H, u64>) -> Result<()> {
+pub(crate) fn array_read<H: GcHeap>(store: &mut Store<H, u64>) -> Result<ValuesRead> {
     let inner = new_array(store, &[])?;
     let values = [any_of(inner), Val::AnyRef(None), any_of(inner)];
     let made = new_array(store, &values)?;
     let before = store.roots_left();
     let elems = ArrayRef::elems(store, &made)?;
-    let len = elems.len();
+    let count = elems.len();
     let digits = digits_of(elems);
-    println!(rt; "{len} elements: {digits}")?;
-    show_roots(rt, store, before)
+    Ok(ValuesRead {
+        count,
+        of: "elements",
+        digits,
+        roots: before.saturating_sub(store.roots_left()),
+    })
 }
 
 /// Reads an exception of a number, of a reference, and of null.
-pub(crate) fn run_exception<H: GcHeap>(rt: &impl Print, store: &mut Store<H, u64>) -> Result<()> {
+pub(crate) fn exception_read<H: GcHeap>(store: &mut Store<H, u64>) -> Result<ValuesRead> {
     let inner = new_array(store, &[])?;
     let values = [Val::I32(4), any_of(inner), Val::AnyRef(None)];
     let made = new_exception(store, &values)?;
     let before = store.roots_left();
     let fields = ExnRef::fields(store, &made)?;
-    let len = fields.len();
+    let count = fields.len();
     let digits = digits_of(fields);
-    println!(rt; "{len} fields of an exception: {digits}")?;
-    show_roots(rt, store, before)
+    Ok(ValuesRead {
+        count,
+        of: "fields of an exception",
+        digits,
+        roots: before.saturating_sub(store.roots_left()),
+    })
 }

@@ -9,7 +9,7 @@ use gc_refs::ValRaw;
 use gc_rooted::{OwnedRooted, Rooted, RootedGcRef};
 use gc_store::{RootFault, Store};
 use gc_wasm_types::WasmTy;
-use run_faults::Result;
+use run_faults::{Both, Fact, Page, Result};
 use std::hash::{FoldHasher, Hasher};
 
 /// A word that is stored over: that of a 31-bit number, so of no object.
@@ -27,78 +27,81 @@ fn answer_name(answer: &Result<(), RootFault>) -> &'static str {
 }
 
 /// Shows what storing a value's word answers, and whether the word that was there stays.
-fn show_stored<H: GcHeap, T: WasmTy>(
-    rt: &impl Print,
-    store: &mut Store<H, u64>,
-    value: &T,
-) -> Result<()> {
+fn show_stored<H: GcHeap, T: WasmTy>(page: &mut Page, store: &mut Store<H, u64>, value: &T) {
     let mut raw = ValRaw::anyref(OLD_WORD);
     let answer = value.store(store, &mut raw);
-    println!(rt;
-        "stored: {}, the word stays: {}",
-        answer_name(&answer),
-        raw.get_anyref() == OLD_WORD
-    )?;
-    Ok(())
+    let stays = raw.get_anyref() == OLD_WORD;
+    page.show(Both(
+        Fact("stored", answer_name(&answer)),
+        Fact("the word stays", stays),
+    ));
 }
 
-/// Shows what a call answered that feeds a hasher, and whether that stays as it began.
-fn show_hashed(rt: &impl Print, answer: &Result<(), RootFault>, hasher: &FoldHasher) -> Result<()> {
-    println!(rt;
-        "hashed: {}, the hasher stays: {}",
-        answer_name(answer),
-        hasher.finish() == FoldHasher::default().finish()
-    )?;
-    Ok(())
+/// Shows what is answered where a hasher is fed what a handle names, and whether the hasher stays as it began.
+fn show_hashed<H: GcHeap, R: RootedGcRef<ArrayRef>>(
+    page: &mut Page,
+    store: &Store<H, u64>,
+    handle: &R,
+) {
+    let mut hasher = FoldHasher::default();
+    let answer = handle.ref_hash(store, &mut hasher);
+    let stays = hasher.finish() == FoldHasher::default().finish();
+    page.show(Both(
+        Fact("hashed", answer_name(&answer)),
+        Fact("the hasher stays", stays),
+    ));
 }
 
 /// Shows a scoped handle, also as one that may be none.
-fn show_scoped<H: GcHeap>(
-    rt: &impl Print,
-    store: &mut Store<H, u64>,
-    handle: Rooted<ArrayRef>,
-) -> Result<()> {
-    show_stored(rt, store, &handle)?;
-    show_stored(rt, store, &Some(handle))?;
-    let mut hasher = FoldHasher::default();
-    let answer = handle.ref_hash(store, &mut hasher);
-    show_hashed(rt, &answer, &hasher)
+fn show_scoped<H: GcHeap>(page: &mut Page, store: &mut Store<H, u64>, handle: Rooted<ArrayRef>) {
+    show_stored(page, store, &handle);
+    show_stored(page, store, &Some(handle));
+    show_hashed(page, store, &handle);
 }
 
 /// Shows an owned handle.
 fn show_owned<H: GcHeap>(
-    rt: &impl Print,
+    page: &mut Page,
     store: &mut Store<H, u64>,
     handle: &OwnedRooted<ArrayRef>,
-) -> Result<()> {
-    show_stored(rt, store, handle)?;
-    let mut hasher = FoldHasher::default();
-    let answer = handle.ref_hash(store, &mut hasher);
-    show_hashed(rt, &answer, &hasher)
+) {
+    show_stored(page, store, handle);
+    show_hashed(page, store, handle);
 }
 
 /// A handle in a scope of its own, which is left before a further array takes the place of the root.
-pub(crate) fn run_left<H: GcHeap>(rt: &impl Print, store: &mut Store<H, u64>) -> Result<()> {
+pub(crate) fn run_left<H: GcHeap>(page: &mut Page, store: &mut Store<H, u64>) {
     let scope = store.enter_gc_lifo_scope();
-    let left = new_array(store, &[])?;
-    show_scoped(rt, store, left)?;
+    let Some(left) = page.found(new_array(store, &[])) else {
+        return;
+    };
+    show_scoped(page, store, left);
     store.exit_gc_lifo_scope(scope);
-    show_scoped(rt, store, left)?;
-    new_array(store, &[])?;
-    show_scoped(rt, store, left)
+    show_scoped(page, store, left);
+    page.keep(new_array(store, &[]));
+    show_scoped(page, store, left);
 }
 
 /// A handle that is another store's, while a root stands at its place here.
-pub(crate) fn run_foreign<H: GcHeap>(rt: &impl Print, store: &mut Store<H, u64>) -> Result<()> {
-    new_array(store, &[])?;
-    let foreign = foreign(store.allocator())?;
-    show_scoped(rt, store, foreign)
+pub(crate) fn run_foreign<H: GcHeap>(page: &mut Page, store: &mut Store<H, u64>) {
+    page.keep(new_array(store, &[]));
+    if let Some(foreign) = page.found(foreign(store.allocator())) {
+        show_scoped(page, store, foreign);
+    }
+}
+
+/// An owned handle of a new array.
+fn new_owned<H: GcHeap>(store: &mut Store<H, u64>) -> Result<OwnedRooted<ArrayRef>> {
+    let made = new_array(store, &[])?;
+    Ok(made.to_owned_rooted(store)?)
 }
 
 /// An owned handle whose root is given up.
-pub(crate) fn run_given_up<H: GcHeap>(rt: &impl Print, store: &mut Store<H, u64>) -> Result<()> {
-    let owned = new_array(store, &[])?.to_owned_rooted(store)?;
-    show_owned(rt, store, &owned)?;
-    store.release(owned.root_index())?;
-    show_owned(rt, store, &owned)
+pub(crate) fn run_given_up<H: GcHeap>(page: &mut Page, store: &mut Store<H, u64>) {
+    let Some(owned) = page.found(new_owned(store)) else {
+        return;
+    };
+    show_owned(page, store, &owned);
+    page.keep(store.release(owned.root_index()));
+    show_owned(page, store, &owned);
 }

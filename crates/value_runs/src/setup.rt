@@ -13,7 +13,8 @@ use gc_objects::{
 use gc_rooted::Rooted;
 use gc_store::{PageLimit, Store};
 use gc_types::{
-    FieldType, Func, HeapType, Mutability, RefType, StorageType, Tag, VMSharedTypeIndex, ValType,
+    FieldType, Func, HeapType, Mutability, RefType, StorageType, Tag, TypeFault, VMSharedTypeIndex,
+    ValType,
 };
 use run_faults::{Result, RunFault};
 
@@ -41,11 +42,11 @@ const TAG: Tag = Tag {
 /// The most pages that a heap gets.
 const MOST_PAGES: u32 = 4;
 
-/// A field of that type that may be written.
-fn field(ty: ValType) -> FieldType {
+/// A field that is stored so and may be written.
+pub(crate) fn field(element_type: StorageType) -> FieldType {
     FieldType {
         mutability: Mutability::Var,
-        element_type: StorageType::ValType(ty),
+        element_type,
     }
 }
 
@@ -58,15 +59,15 @@ fn or_null(heap_type: HeapType) -> ValType {
 }
 
 /// A field of references of that type, or null.
-fn reference(heap_type: HeapType) -> FieldType {
-    field(or_null(heap_type))
+pub(crate) fn reference(heap_type: HeapType) -> FieldType {
+    field(StorageType::ValType(or_null(heap_type)))
 }
 
 /// Declares the types of a new store.
-pub(crate) fn declare_types<H: GcHeap>(store: &mut Store<H, u64>) -> Result<()> {
+pub(crate) fn declare_types<H: GcHeap>(store: &mut Store<H, u64>) -> Result<(), TypeFault> {
     store.declare_func(&[], &[], None, false)?;
     let fields = [
-        field(ValType::I32),
+        field(StorageType::ValType(ValType::I32)),
         reference(HeapType::ConcreteFunc(VMSharedTypeIndex::new(FUNCTION))),
         reference(HeapType::Any),
         reference(HeapType::Any),
@@ -81,9 +82,8 @@ pub(crate) fn declare_types<H: GcHeap>(store: &mut Store<H, u64>) -> Result<()> 
 }
 
 /// The function of that number.
-pub(crate) fn function(number: u32) -> Result<Val> {
-    let func = Func::new(number, VMSharedTypeIndex::new(FUNCTION)).ok_or(RunFault::NoFunction)?;
-    Ok(Val::FuncRef(Some(func)))
+pub(crate) fn function(number: u32) -> Val {
+    Val::FuncRef(Func::new(number, VMSharedTypeIndex::new(FUNCTION)))
 }
 
 /// An allocator of structs of that type.

@@ -7,85 +7,73 @@ use gc_heap::{GcHeap, GcProgress};
 use gc_rooted::RootScope;
 use gc_steps::Steps;
 use gc_store::{Collecting, GcRootIndex, PageLimit, Store};
-use run_faults::{Result, RunFault};
+use run_faults::{Page, Result, RunFault};
 use std::marker::Brand;
 use std::sync::ledger::{Blank, Ledger};
 
+/// The most pages that a heap gets.
+const MOST_PAGES: u32 = 64;
+
 /// Makes a host object with a scoped root.
-pub(crate) fn place_one<H: GcHeap>(
-    store: &mut Store<H, u64>,
-    limiter: &mut PageLimit,
-    value: u64,
-) -> Result<GcRootIndex> {
-    match store.place_host(limiter, value) {
+pub(crate) fn place_one<H: GcHeap>(store: &mut Store<H, u64>, value: u64) -> Result<GcRootIndex> {
+    match store.place_host(&mut PageLimit::new(MOST_PAGES), value) {
         Ok(root) => Ok(root),
         Err(_) => return Err(RunFault::NotMade),
     }
 }
 
 /// Makes so many host objects, each with a scoped root of its own.
-pub(crate) fn place<H: GcHeap>(
-    store: &mut Store<H, u64>,
-    limiter: &mut PageLimit,
-    count: u64,
-) -> Result<()> {
+pub(crate) fn place<H: GcHeap>(store: &mut Store<H, u64>, count: u64) -> Result<()> {
     for value in 0..count {
-        place_one(store, limiter, value)?;
+        place_one(store, value)?;
     }
     Ok(())
 }
 
 /// Makes so many host objects that no root names afterwards.
-pub(crate) fn litter<H: GcHeap>(
-    store: &mut Store<H, u64>,
-    limiter: &mut PageLimit,
-    count: u64,
-) -> Result<()> {
+pub(crate) fn litter<H: GcHeap>(store: &mut Store<H, u64>, count: u64) -> Result<()> {
     let mut scope = RootScope::new(store);
-    place(scope.store(), limiter, count)
+    place(scope.store(), count)
 }
 
-/// Prints what an increment answered.
-fn tell(rt: &impl Print, progress: GcProgress) -> Result<()> {
+/// What an increment answers.
+fn progress_name(progress: GcProgress) -> &'static str {
     match progress {
-        GcProgress::Continue => println!(rt; "goes on")?,
-        GcProgress::Complete => println!(rt; "complete")?,
+        GcProgress::Continue => "goes on",
+        GcProgress::Complete => "complete",
     }
-    Ok(())
 }
 
-/// Does so many increments, and prints what each answers.
+/// Does so many increments, and shows what each answers.
 fn do_increments<H: GcHeap + Drop>(
-    rt: &impl Print,
+    page: &mut Page,
     collecting: &mut Collecting<'_, H, u64>,
     increments: u64,
-) -> Result<()> {
+) {
     for _ in 0..increments {
-        tell(rt, collecting.collect_increment())?;
+        page.show(progress_name(collecting.collect_increment()));
     }
-    Ok(())
 }
 
 /// Starts a collection, and drops it after so many increments.
 pub(crate) fn drop_after<H: GcHeap + Drop>(
-    rt: &impl Print,
+    page: &mut Page,
     store: &mut Store<H, u64>,
     increments: u64,
-) -> Result<()> {
+) {
     let mut collecting = store.gc_start();
-    do_increments(rt, &mut collecting, increments)
+    do_increments(page, &mut collecting, increments);
 }
 
 /// Starts a collection, and does all of it after so many increments.
 pub(crate) fn collect_after<H: GcHeap + Drop>(
-    rt: &impl Print,
+    page: &mut Page,
     store: &mut Store<H, u64>,
     increments: u64,
-) -> Result<()> {
+) {
     let mut collecting = store.gc_start();
-    do_increments(rt, &mut collecting, increments)?;
+    do_increments(page, &mut collecting, increments);
     collecting.collect();
-    Ok(())
 }
 
 /// Does all of a collection of a store, counted from the beginning: in a copying heap it takes one step for each object that is
@@ -125,12 +113,11 @@ fn count_rest<L: Ledger, H: GcHeap + Drop>(collecting: &mut Collecting<'_, H, u6
 
 /// Starts a collection, and does all of it after so many increments, counted.
 pub(crate) fn count_after<H: GcHeap + Drop>(
-    rt: &impl Print,
+    page: &mut Page,
     store: &mut Store<H, u64>,
     increments: u64,
-) -> Result<()> {
+) {
     let mut collecting = store.gc_start();
-    do_increments(rt, &mut collecting, increments)?;
+    do_increments(page, &mut collecting, increments);
     count_rest::<Brand, H>(&mut collecting, Blank::new(1));
-    Ok(())
 }
