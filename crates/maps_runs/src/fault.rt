@@ -8,8 +8,8 @@ use thiserror::Error;
 /// Why a run of lists or maps ends early.
 #[derive(Debug, Drop, Error)]
 pub(crate) enum RunFault {
-    #[error("there is no such configuration, kit or version")]
-    Missing,
+    #[error("there is no such configuration")]
+    NoConfiguration,
     #[error("a list or a map is refused")]
     Refused(ListFault),
     #[error(transparent)]

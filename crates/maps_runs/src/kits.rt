@@ -7,14 +7,13 @@ ghost use Rattle.gc_lists.specs.declared.kit.Kit.{Kit};
 ghost use Rattle.maps_runs.specs.ListShelves.{ListShelf};
 ghost use Rattle.maps_runs.specs.Shelves.{Shelf, id_in};
 
-use crate::fault::RunFault;
 use gc_heap::GcHeap;
 use gc_lists::{Kit, ListFault};
 use gc_store::Store;
 use gc_store::laws::stores_hold_tables;
 
 /// The kit of a store.
-pub(crate) fn new_kit<H: GcHeap>(store: &mut Store<H, u64>) -> Result<Kit, RunFault>
+pub(crate) fn new_kit<H: GcHeap>(store: &mut Store<H, u64>) -> Result<Kit, ListFault>
     ensures shelf { IfOk result (λ kit. Shelf H.KIND store.new kit []) }
     ensures lists { IfOk result (λ kit. ListShelf H.KIND store.new kit []) }
     ensures own { IfOk result (λ kit. kit.store_id ≡ id_in store.new) }
@@ -23,7 +22,8 @@ pub(crate) fn new_kit<H: GcHeap>(store: &mut Store<H, u64>) -> Result<Kit, RunFa
     stores_hold_tables(store);
     match Kit::new(store) {
         Ok(kit) => Ok(kit),
-        Err(_) => Err(RunFault::Missing),
+        // There are few types here, so that only memory can be wanting.
+        Err(_) => Err(ListFault::Memory),
     }
 }
 

@@ -7,7 +7,6 @@ ghost use Rattle.gc_lists.specs.declared.kit.Kit.{Kit};
 ghost use Rattle.maps_runs.specs.ListShelves.{ListShelf};
 ghost use Rattle.maps_runs.specs.Shelves.{IsRootedIn};
 
-use crate::fault::RunFault;
 use gc_heap::GcHeap;
 use gc_lists::{HeapList, Kit, ListFault};
 use gc_store::{PageLimit, Store};
@@ -38,14 +37,14 @@ pub(crate) fn add_in_vain<H: GcHeap>(
     kit: &Kit,
     list: &HeapList,
     head: i64,
-) -> Result<(), RunFault>
+) -> Result<(), ListFault>
     requires { ListShelf H.KIND store.old kit.now (list.now.root ∷ []) }
     ensures { IfOk result (λ done. ListShelf H.KIND store.new kit.now (list.now.root ∷ [])) }
 {
     let made = list.cons(kit, store, limiter, head)?;
     match made.release(store) {
         Ok(()) => Ok(()),
-        Err(_) => Err(RunFault::Missing),
+        Err(_) => Err(ListFault::WrongStore),
     }
 }
 

@@ -9,19 +9,25 @@ mod foreign;
 mod kits;
 mod list_shelf;
 mod lists;
+mod page;
 mod random;
 mod shelf;
 
-ghost use Rattle.std.specs.Prelude.{◌≡◌};
+ghost use Rattle.std.specs.Prelude.{◌≡◌, []};
 ghost use Rattle.gc_view.specs.Heaps.{detached};
+ghost use Rattle.maps_runs.specs.ListShelves.{ListShelf};
+ghost use Rattle.maps_runs.specs.Shelves.{Shelf};
 
 use crate::cases::{run_kept, run_keys, run_refused, run_removed, run_scarce};
 use crate::fault::RunFault;
 use crate::foreign::run_foreign;
+use crate::kits::new_kit;
+use crate::page::Page;
 use crate::random::{CHANGES, run_random};
 use gc_copying::CopyingHeap;
 use gc_drc::DrcHeap;
 use gc_heap::{GcHeap, NullHeap};
+use gc_lists::{Kit, ListFault};
 use gc_store::{HeapConfig, PageLimit, Store, StoreId};
 use gc_types::Layouts;
 use std::alloc::Global;
@@ -72,7 +78,52 @@ impl Part {
             Part::NoPages => 0,
         }
     }
+
+    /// Its cases, in order.
+    fn cases(self) -> &'static [Case] {
+        match self {
+            Part::Calls => &CALLS,
+            Part::Random => &[Case::Random],
+            Part::NoRoots | Part::NoPages => &REFUSALS,
+        }
+    }
 }
+
+/// What is run on a store with a kit of its own.
+#[derive(Clone, Copy)]
+enum Case {
+    /// Two numbers in front of the empty list.
+    TwoNumbers,
+    /// A longer list is given up.
+    ListKept,
+    /// Keys in an order that balances trees from either side.
+    Keys,
+    /// A key is removed.
+    Removed,
+    /// A larger map is given up.
+    MapKept,
+    /// Entries are copied out where few roots may be made.
+    Scarce,
+    /// A number in front of a list is refused.
+    ListRefused,
+    /// A key is refused.
+    MapRefused,
+    /// A map is changed many times.
+    Random,
+}
+
+/// The cases of lists and maps that have room.
+const CALLS: [Case; 6] = [
+    Case::TwoNumbers,
+    Case::ListKept,
+    Case::Keys,
+    Case::Removed,
+    Case::MapKept,
+    Case::Scarce,
+];
+
+/// The cases of those that have none.
+const REFUSALS: [Case; 2] = [Case::ListRefused, Case::MapRefused];
 
 /// What is run on two stores.
 #[derive(Clone, Copy)]
@@ -118,71 +169,103 @@ const STEPS: [Step; 18] = [
 
 /// Configures stores with so many owned roots at most.
 fn config_of(max_owned: u32) -> Result<HeapConfig, RunFault> {
-    match HeapConfig::new(1, 2048, max_owned, None) {
-        Some(config) => Ok(config),
-        None => Err(RunFault::Missing),
-    }
+    HeapConfig::new(1, 2048, max_owned, None).ok_or(RunFault::NoConfiguration)
 }
 
-/// Makes lists and fills maps in a store.
-fn run_calls<H: GcHeap>(
-    rt: &impl Print,
+/// Runs a case with a store's kit.
+fn run_with<H: GcHeap>(
+    page: &mut Page,
     alloc: Global,
     store: &mut Store<H, u64>,
     limiter: &mut PageLimit,
-) -> Result<(), RunFault> {
-    lists::run_two(rt, alloc, store, limiter)?;
-    lists::run_kept(rt, alloc, store, limiter)?;
-    run_keys(rt, alloc, store, limiter)?;
-    run_removed(rt, alloc, store, limiter)?;
-    run_kept(rt, store, limiter)?;
-    run_scarce(rt, alloc, store, limiter)
+    kit: &Kit,
+    case: Case,
+) -> Result<(), ListFault>
+    requires shelf { Shelf H.KIND store.old kit.now [] }
+    requires lists { ListShelf H.KIND store.old kit.now [] }
+{
+    match case {
+        Case::TwoNumbers => lists::run_two(page, alloc, store, limiter, kit),
+        Case::ListKept => lists::run_kept(page, alloc, store, limiter, kit),
+        Case::Keys => run_keys(page, alloc, store, limiter, kit),
+        Case::Removed => run_removed(page, alloc, store, limiter, kit),
+        Case::MapKept => run_kept(page, store, limiter, kit),
+        Case::Scarce => run_scarce(page, alloc, store, limiter, kit),
+        Case::Random => run_random(page, store, limiter, kit),
+        Case::ListRefused => {
+            lists::run_refused(page, store, limiter, kit);
+            Ok(())
+        }
+        Case::MapRefused => {
+            run_refused(page, store, limiter, kit);
+            Ok(())
+        }
+    }
 }
 
-/// Has a number in front of a list and a key refused in a store that may have no more roots or pages.
-fn run_both_refused<H: GcHeap>(
-    rt: &impl Print,
+/// Runs a case with a new kit.
+fn run_case<H: GcHeap>(
+    page: &mut Page,
+    alloc: Global,
     store: &mut Store<H, u64>,
     limiter: &mut PageLimit,
-) -> Result<(), RunFault> {
-    lists::run_refused(rt, store, limiter)?;
-    run_refused(rt, store, limiter)
+    case: Case,
+) -> Result<(), ListFault> {
+    let kit = new_kit(store)?;
+    run_with(page, alloc, store, limiter, &kit, case)
 }
 
 /// Runs a part on a new store.
 fn run_part<H: GcHeap>(
-    rt: &impl Print,
+    page: &mut Page,
     alloc: Global,
     store: &mut Store<H, u64>,
     part: Part,
-) -> Result<(), RunFault> {
+) -> Result<(), ListFault> {
     let mut limiter = PageLimit::new(part.max_pages());
-    match part {
-        Part::Calls => run_calls(rt, alloc, store, &mut limiter),
-        Part::Random => run_random(rt, store, &mut limiter),
-        Part::NoRoots | Part::NoPages => run_both_refused(rt, store, &mut limiter),
+    for case in part.cases() {
+        run_case(page, alloc, store, &mut limiter, *case)?;
     }
+    Ok(())
 }
 
 /// Runs a part on a new store over that heap.
 fn run_over<H: GcHeap + Drop>(
-    rt: &impl Print,
+    page: &mut Page,
     alloc: Global,
+    config: HeapConfig,
     heap: H,
     part: Part,
 ) -> Result<(), RunFault>
     requires sound { H.sound heap }
     requires empty { H.seen heap ≡ detached }
 {
-    let config = config_of(part.max_owned())?;
     let mut store = Store::new(alloc, STORE, heap, config)?;
-    run_part(rt, alloc, &mut store, part)
+    Ok(run_part(page, alloc, &mut store, part)?)
+}
+
+/// Runs a pair on two new stores.
+fn run_pair<H: GcHeap>(
+    page: &mut Page,
+    alloc: Global,
+    store: &mut Store<H, u64>,
+    other: &mut Store<H, u64>,
+    pair: Pair,
+) -> Result<(), ListFault>
+    requires store { store.old.number ≡ 0 }
+    requires other { other.old.number ≡ 1 }
+{
+    match pair {
+        Pair::Lists => lists::run_foreign(page, store, other, &mut PageLimit::new(4)),
+        Pair::Maps => run_foreign(page, alloc, store, other, &mut PageLimit::new(8)),
+    }
 }
 
 /// Runs a pair on two new stores over these heaps.
 fn pair_over<H: GcHeap + Drop>(
-    rt: &impl Print,
+    page: &mut Page,
     alloc: Global,
+    config: HeapConfig,
     heap: H,
     other_heap: H,
     pair: Pair,
@@ -192,54 +275,69 @@ fn pair_over<H: GcHeap + Drop>(
     requires other_sound { H.sound other_heap }
     requires other_empty { H.seen other_heap ≡ detached }
 {
-    let config = config_of(AMPLE_ROOTS)?;
     let mut store = Store::new(alloc, STORE, heap, config)?;
     let mut other = Store::new(alloc, OTHER, other_heap, config)?;
-    match pair {
-        Pair::Lists => lists::run_foreign(rt, &mut store, &mut other, &mut PageLimit::new(4)),
-        Pair::Maps => run_foreign(rt, alloc, &mut store, &mut other, &mut PageLimit::new(8)),
-    }
+    Ok(run_pair(page, alloc, &mut store, &mut other, pair)?)
 }
 
 /// Runs a part on a store over a heap of that kind.
-fn run_on(rt: &impl Print, alloc: Global, kind: Layouts, part: Part) -> Result<(), RunFault> {
+fn run_on(page: &mut Page, alloc: Global, kind: Layouts, part: Part) -> Result<(), RunFault> {
+    let config = config_of(part.max_owned())?;
     match kind {
-        Layouts::Null => run_over(rt, alloc, NullHeap::new(alloc), part),
-        Layouts::Counting => run_over(rt, alloc, DrcHeap::new(alloc), part),
-        Layouts::Copying => run_over(rt, alloc, CopyingHeap::new(alloc), part),
+        Layouts::Null => run_over(page, alloc, config, NullHeap::new(alloc), part),
+        Layouts::Counting => run_over(page, alloc, config, DrcHeap::new(alloc), part),
+        Layouts::Copying => run_over(page, alloc, config, CopyingHeap::new(alloc), part),
     }
 }
 
 /// Runs a pair on two stores over heaps of that kind.
-fn pair_on(rt: &impl Print, alloc: Global, kind: Layouts, pair: Pair) -> Result<(), RunFault> {
+fn pair_on(page: &mut Page, alloc: Global, kind: Layouts, pair: Pair) -> Result<(), RunFault> {
+    let config = config_of(AMPLE_ROOTS)?;
     match kind {
-        Layouts::Null => pair_over(rt, alloc, NullHeap::new(alloc), NullHeap::new(alloc), pair),
-        Layouts::Counting => pair_over(rt, alloc, DrcHeap::new(alloc), DrcHeap::new(alloc), pair),
+        Layouts::Null => {
+            let (heap, other) = (NullHeap::new(alloc), NullHeap::new(alloc));
+            pair_over(page, alloc, config, heap, other, pair)
+        }
+        Layouts::Counting => {
+            let (heap, other) = (DrcHeap::new(alloc), DrcHeap::new(alloc));
+            pair_over(page, alloc, config, heap, other, pair)
+        }
         Layouts::Copying => {
-            pair_over(
-                rt,
-                alloc,
-                CopyingHeap::new(alloc),
-                CopyingHeap::new(alloc),
-                pair,
-            )
+            let (heap, other) = (CopyingHeap::new(alloc), CopyingHeap::new(alloc));
+            pair_over(page, alloc, config, heap, other, pair)
         }
     }
 }
 
 /// Does a step.
-fn do_step(rt: &impl Print, alloc: Global, step: Step) -> Result<(), RunFault> {
+fn do_step(page: &mut Page, alloc: Global, step: Step) -> Result<(), RunFault> {
     match step {
-        Step::Titles(title) => Ok(println!(rt; "{title}")?),
-        Step::Runs(kind, part) => run_on(rt, alloc, kind, part),
-        Step::Pairs(kind, pair) => pair_on(rt, alloc, kind, pair),
+        Step::Titles(title) => {
+            writeln!(page, "{title}");
+            Ok(())
+        }
+        Step::Runs(kind, part) => run_on(page, alloc, kind, part),
+        Step::Pairs(kind, pair) => pair_on(page, alloc, kind, pair),
     }
 }
 
-fn main(rt: HostRuntime) -> Result<(), RunFault> {
-    let alloc = rt.alloc();
+/// Does each step.
+fn do_steps(page: &mut Page, alloc: Global) -> Result<(), RunFault> {
     for step in STEPS {
-        do_step(&rt, alloc, step)?;
+        do_step(page, alloc, step)?;
     }
+    Ok(())
+}
+
+/// What is printed.
+fn shown(alloc: Global) -> Result<String, RunFault> {
+    let mut page = Page::new(alloc);
+    do_steps(&mut page, alloc)?;
+    Ok(page.finish()?)
+}
+
+fn main(rt: HostRuntime) -> Result<(), RunFault> {
+    let text = shown(rt.alloc())?;
+    print!(rt; "{text}")?;
     Ok(())
 }

@@ -4,8 +4,8 @@ ghost use Rattle.std.specs.Prelude.{◌∷◌, [], IfOk};
 ghost use Rattle.gc_lists.specs.declared.kit.Kit.{Kit};
 ghost use Rattle.maps_runs.specs.Shelves.{Shelf};
 
-use crate::fault::RunFault;
-use crate::kits::{collect, new_kit};
+use crate::kits::collect;
+use crate::page::Page;
 use crate::shelf::{cut, find, put};
 use gc_heap::GcHeap;
 use gc_lists::{Kit, ListFault};
@@ -110,16 +110,18 @@ fn change_both<H: GcHeap>(
 
 /// Many changes of a map, no version of which is given up, and whether it agreed with a table.
 pub(crate) fn run_random<H: GcHeap>(
-    rt: &impl Print,
+    page: &mut Page,
     store: &mut Store<H, u64>,
     limiter: &mut PageLimit,
-) -> Result<(), RunFault> {
-    let kit = new_kit(store)?;
-    let answer = if change_both(store, limiter, &kit)? {
+    kit: &Kit,
+) -> Result<(), ListFault>
+    requires { Shelf H.KIND store.old kit.now [] }
+{
+    let answer = if change_both(store, limiter, kit)? {
         "agrees"
     } else {
         "differs"
     };
-    println!(rt; "{answer}")?;
+    writeln!(page, "{answer}");
     Ok(())
 }

@@ -7,7 +7,6 @@ ghost use Rattle.gc_lists.specs.declared.kit.Kit.{Kit};
 ghost use Rattle.gc_lists.specs.Versions.{is_version_of};
 ghost use Rattle.maps_runs.specs.Shelves.{IsRootedIn, Shelf};
 
-use crate::fault::RunFault;
 use gc_heap::GcHeap;
 use gc_lists::{Kit, ListFault};
 use gc_maps::HeapMap;
@@ -45,14 +44,14 @@ pub(crate) fn put_in_vain<H: GcHeap>(
     map: &HeapMap,
     key: i64,
     value: i64,
-) -> Result<(), RunFault>
+) -> Result<(), ListFault>
     requires { Shelf H.KIND store.old kit.now (map.now.root ∷ []) }
     ensures { IfOk result (λ done. Shelf H.KIND store.new kit.now (map.now.root ∷ [])) }
 {
     let made = map.insert(kit, store, limiter, key, value)?;
     match made.release(store) {
         Ok(()) => Ok(()),
-        Err(_) => Err(RunFault::Missing),
+        Err(_) => Err(ListFault::WrongStore),
     }
 }
 
@@ -86,12 +85,12 @@ pub(crate) fn cut<H: GcHeap>(
 }
 
 /// Pushes scoped roots until so many more may be pushed.
-pub(crate) fn leave_roots<H: GcHeap>(store: &mut Store<H, u64>, left: u64) -> Result<(), RunFault>
+pub(crate) fn leave_roots<H: GcHeap>(store: &mut Store<H, u64>, left: u64) -> Result<(), ListFault>
     ensures { IfOk result (λ done. (kit : Kit) (vs : List (Option GcRootIndex)) → Shelf H.KIND store.old kit vs → Shelf H.KIND store.new kit vs) }
 {
     for _root in left..store.roots_left() {
         if store.push_i31(I31::wrapping_u32(0)).is_err() {
-            return Err(RunFault::Missing);
+            return Err(ListFault::RootsFull);
         }
     }
     Ok(())

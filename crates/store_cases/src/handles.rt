@@ -4,12 +4,12 @@ ghost use Rattle.gc_types.specs.declared.kind.VMGcKind.TheVariants.{AnyRef};
 ghost use Rattle.gc_owner.specs.declared.entry.GcClass.TheVariants.{Any};
 
 use crate::fault::CaseFault;
+use crate::page::Page;
 use gc_heap::GcHeap;
 use gc_refs::I31;
 use gc_rooted::{GcRef, OwnedRooted, Rooted, RootedGcRef, ref_eq};
 use gc_store::{GcClass, GcRootIndex, RootFault, RootSlot, Store};
 use gc_types::VMGcKind;
-use std::alloc::AllocError;
 
 /// A marker that stands in no library.
 #[derive(Clone, Copy, Debug)]
@@ -30,23 +30,19 @@ pub(crate) fn show_answer<T: Drop>(
     call: &str,
     done: &str,
     answer: Result<T, RootFault>,
-    out: &mut String,
-) -> Result<(), AllocError> {
+    page: &mut Page,
+) {
     match answer {
-        Ok(_) => writeln!(out, "{call}: {done}"),
-        Err(fault) => writeln!(out, "{call}: {fault}"),
+        Ok(_) => writeln!(page, "{call}: {done}"),
+        Err(fault) => writeln!(page, "{call}: {fault}"),
     }
 }
 
 /// Writes whether a call tells that two are the same, or why it was refused.
-fn show_compared(
-    call: &str,
-    answer: Result<bool, RootFault>,
-    out: &mut String,
-) -> Result<(), AllocError> {
+pub(crate) fn show_compared(call: &str, answer: Result<bool, RootFault>, page: &mut Page) {
     match answer {
-        Ok(same) => writeln!(out, "{call}: {same}"),
-        Err(fault) => writeln!(out, "{call}: {fault}"),
+        Ok(same) => writeln!(page, "{call}: {same}"),
+        Err(fault) => writeln!(page, "{call}: {fault}"),
     }
 }
 
@@ -54,8 +50,8 @@ fn show_compared(
 pub(crate) fn run_unnamed<H: GcHeap>(
     store: &Store<H, u64>,
     stranger: &Store<H, u64>,
-    out: &mut String,
-) -> Result<(), AllocError> {
+    page: &mut Page,
+) {
     let cases = [
         (store.id(), RootSlot::Scoped(0)),
         (store.id(), RootSlot::Scoped(u32::MAX)),
@@ -69,10 +65,9 @@ pub(crate) fn run_unnamed<H: GcHeap>(
             generation: 0,
             slot,
         };
-        show_answer("object", "found", store.object(handle), out)?;
-        show_compared("index_eq", store.index_eq(handle, handle), out)?;
+        show_answer("object", "found", store.object(handle), page);
+        show_compared("index_eq", store.index_eq(handle, handle), page);
     }
-    Ok(())
 }
 
 /// A new root of a small integer.
@@ -90,13 +85,13 @@ struct Marked {
 }
 
 /// Writes which of the handles are of the same root.
-fn show_roots(marked: Marked, out: &mut String) -> Result<(), AllocError> {
+fn show_roots(marked: Marked, page: &mut Page) {
     let five = marked.five;
     let cast = Rooted::rooted_eq(five, five.cast());
     let other = Rooted::rooted_eq(five, marked.again);
     let index = five.root_index() == five.root_index();
     writeln!(
-        out,
+        page,
         "rooted_eq: {cast}\nrooted_eq: {other}\nroot_index: {index}"
     )
 }
@@ -106,40 +101,37 @@ fn show_marked<H: GcHeap>(
     store: &mut Store<H, u64>,
     stranger: &Store<H, u64>,
     marked: Marked,
-    out: &mut String,
-) -> Result<(), AllocError> {
+    page: &mut Page,
+) {
     let Marked { five, again, six } = marked;
-    show_compared("ref_eq", ref_eq(store, &five, &again), out)?;
-    show_compared("ref_eq", ref_eq(store, &five, &six), out)?;
-    show_compared("ref_eq", ref_eq(stranger, &five, &again), out)?;
+    show_compared("ref_eq", ref_eq(store, &five, &again), page);
+    show_compared("ref_eq", ref_eq(store, &five, &six), page);
+    show_compared("ref_eq", ref_eq(stranger, &five, &again), page);
     store.exit_gc_lifo_scope(0);
-    show_compared("ref_eq", ref_eq(store, &five, &again), out)
+    show_compared("ref_eq", ref_eq(store, &five, &again), page)
 }
 
 /// Marked handles name what their roots name, as long as these stand.
 pub(crate) fn run_marked<H: GcHeap>(
     store: &mut Store<H, u64>,
     stranger: &Store<H, u64>,
-    out: &mut String,
+    page: &mut Page,
 ) -> Result<(), CaseFault> {
     let marked = Marked {
         five: push(store, 5)?,
         again: push(store, 5)?,
         six: push(store, 6)?,
     };
-    show_roots(marked, out)?;
-    Ok(show_marked(store, stranger, marked, out)?)
+    show_roots(marked, page);
+    show_marked(store, stranger, marked, page);
+    Ok(())
 }
 
 /// Gives a handle of an owned root up, and writes whether the store took it back.
-fn give_up<H: GcHeap>(
-    store: &mut Store<H, u64>,
-    owned: OwnedRooted<Small>,
-    out: &mut String,
-) -> Result<(), AllocError> {
+fn give_up<H: GcHeap>(store: &mut Store<H, u64>, owned: OwnedRooted<Small>, page: &mut Page) {
     match owned.unroot(store) {
-        Ok(()) => out.push_str("unroot: given up\n"),
-        Err(_) => out.push_str("unroot: handed back\n"),
+        Ok(()) => writeln!(page, "unroot: given up"),
+        Err(_) => writeln!(page, "unroot: handed back"),
     }
 }
 
@@ -148,13 +140,13 @@ fn give_away<H: GcHeap>(
     store: &mut Store<H, u64>,
     stranger: &mut Store<H, u64>,
     owned: OwnedRooted<Small>,
-    out: &mut String,
-) -> Result<(), AllocError> {
+    page: &mut Page,
+) {
     match owned.unroot(stranger) {
-        Ok(()) => out.push_str("unroot: given up\n"),
+        Ok(()) => writeln!(page, "unroot: given up"),
         Err(back) => {
-            out.push_str("unroot: handed back\n")?;
-            give_up(store, back, out)
+            writeln!(page, "unroot: handed back");
+            give_up(store, back, page)
         }
     }
 }
@@ -165,11 +157,11 @@ fn give_both<H: GcHeap>(
     stranger: &mut Store<H, u64>,
     first: OwnedRooted<Small>,
     second: OwnedRooted<Small>,
-    out: &mut String,
-) -> Result<(), AllocError> {
-    give_up(store, first, out)?;
-    show_answer("to_rooted", "pushed", second.to_rooted(store), out)?;
-    give_away(store, stranger, second, out)
+    page: &mut Page,
+) {
+    give_up(store, first, page);
+    show_answer("to_rooted", "pushed", second.to_rooted(store), page);
+    give_away(store, stranger, second, page)
 }
 
 /// An owned root outlives its scope and a collection, until the last of its handles is given up; another store hands
@@ -177,14 +169,14 @@ fn give_both<H: GcHeap>(
 pub(crate) fn run_owned<H: GcHeap>(
     store: &mut Store<H, u64>,
     stranger: &mut Store<H, u64>,
-    out: &mut String,
+    page: &mut Page,
 ) -> Result<(), CaseFault> {
     let rooted = push(store, 9)?;
     let first = rooted.to_owned_rooted(store)?;
     let second = first.clone_in(store)?;
     store.exit_gc_lifo_scope(0);
     store.gc();
-    give_both(store, stranger, first, second, out)?;
+    give_both(store, stranger, first, second, page);
     store.exit_gc_lifo_scope(0);
     Ok(())
 }

@@ -1,5 +1,6 @@
 //! Configurations, ids, and limiters.
 
+use crate::page::Page;
 use gc_store::{
     Engine, HeapConfig, PageLimit, ResourceLimiter, Scripted, StoreId, should_collect_first,
 };
@@ -12,7 +13,7 @@ const MOST_ROOTS: u32 = 0x8000_0000;
 const MOST_PAGES: u32 = 65_535;
 
 /// Writes which configurations there are.
-pub(crate) fn run_configurations(out: &mut String) -> Result<(), AllocError> {
+pub(crate) fn run_configurations(page: &mut Page) {
     let cases = [
         (MOST_PAGES, MOST_ROOTS, MOST_ROOTS),
         (0, 0, 0),
@@ -22,82 +23,65 @@ pub(crate) fn run_configurations(out: &mut String) -> Result<(), AllocError> {
     ];
     for (first, scoped, owned) in cases {
         let made = HeapConfig::new(first, scoped, owned, None).is_some();
-        writeln!(out, "configuration {first} {scoped} {owned}: {made}")?;
+        writeln!(page, "configuration {first} {scoped} {owned}: {made}");
     }
     for first in [MOST_PAGES, MOST_PAGES + 1] {
         let made = HeapConfig::with_pages(first).is_some();
-        writeln!(out, "configuration {first}: {made}")?;
+        writeln!(page, "configuration {first}: {made}");
     }
-    Ok(())
 }
 
 /// Writes an id.
-fn show_id(id: Option<StoreId>, out: &mut String) -> Result<(), AllocError> {
+fn show_id(id: Option<StoreId>, page: &mut Page) {
     match id {
-        Some(id) => writeln!(out, "store {} of engine {}", id.number, id.engine),
-        None => out.push_str("no store\n"),
+        Some(id) => writeln!(page, "store {} of engine {}", id.number, id.engine),
+        None => writeln!(page, "no store"),
     }
 }
 
 /// Writes the first ids of an engine.
-pub(crate) fn run_ids(out: &mut String) -> Result<(), AllocError> {
+pub(crate) fn run_ids(page: &mut Page) {
     let mut engine = Engine::new(7);
     for _ in 0..2 {
-        show_id(engine.next_store_id(), out)?;
+        show_id(engine.next_store_id(), page);
     }
-    Ok(())
 }
 
 /// Asks a limiter, and writes its answer.
-fn ask<L: ResourceLimiter>(
-    limiter: &mut L,
-    from: u32,
-    to: u32,
-    out: &mut String,
-) -> Result<(), AllocError> {
+fn ask<L: ResourceLimiter>(limiter: &mut L, from: u32, to: u32, page: &mut Page) {
     let granted = limiter.growing(from, to);
-    writeln!(out, "growing {from} {to}: {granted}")
+    writeln!(page, "growing {from} {to}: {granted}")
 }
 
 /// Writes what a limiter refused.
-fn show_refusals(
-    refusals: u64,
-    last: Option<(u32, u32)>,
-    out: &mut String,
-) -> Result<(), AllocError> {
+fn show_refusals(refusals: u64, last: Option<(u32, u32)>, page: &mut Page) {
     match last {
-        Some((from, to)) => writeln!(out, "refusals {refusals}, last {from} {to}"),
-        None => writeln!(out, "refusals {refusals}"),
+        Some((from, to)) => writeln!(page, "refusals {refusals}, last {from} {to}"),
+        None => writeln!(page, "refusals {refusals}"),
     }
 }
 
 /// A limiter of pages counts what it refuses.
-pub(crate) fn run_page_limit(out: &mut String) -> Result<(), AllocError> {
+pub(crate) fn run_page_limit(page: &mut Page) {
     let mut limiter = PageLimit::new(3);
     for (from, to) in [(0, 3), (0, 4), (2, 3), (3, 9)] {
-        ask(&mut limiter, from, to, out)?;
-        show_refusals(limiter.refusals(), limiter.last_refused(), out)?;
+        ask(&mut limiter, from, to, page);
+        show_refusals(limiter.refusals(), limiter.last_refused(), page);
     }
-    Ok(())
 }
 
 /// A limiter by a list answers in order, and true after the last.
-pub(crate) fn run_scripted(alloc: Global, out: &mut String) -> Result<(), AllocError> {
+pub(crate) fn run_scripted(alloc: Global, page: &mut Page) -> Result<(), AllocError> {
     let mut limiter = Scripted::new(vec![in alloc; false, true, false]?);
-    ask_scripted(&mut limiter, out)
-}
-
-/// Asks a limiter by a list more often than the list is long.
-fn ask_scripted(limiter: &mut Scripted, out: &mut String) -> Result<(), AllocError> {
     for (from, to) in [(0, 1), (0, 2), (2, 4), (4, 9), (9, 9)] {
-        ask(limiter, from, to, out)?;
-        show_refusals(limiter.refusals(), limiter.last_refused(), out)?;
+        ask(&mut limiter, from, to, page);
+        show_refusals(limiter.refusals(), limiter.last_refused(), page);
     }
     Ok(())
 }
 
 /// Writes whether an allocation that finds no room collects before it grows.
-pub(crate) fn run_firsts(out: &mut String) -> Result<(), AllocError> {
+pub(crate) fn run_firsts(page: &mut Page) {
     let most = isize::MAX as usize;
     let cases = [
         (0, 0, 0),
@@ -113,7 +97,6 @@ pub(crate) fn run_firsts(out: &mut String) -> Result<(), AllocError> {
     ];
     for (needed, capacity, usage) in cases {
         let first = should_collect_first(needed, capacity, usage);
-        writeln!(out, "collects first {needed} {capacity} {usage}: {first}")?;
+        writeln!(page, "collects first {needed} {capacity} {usage}: {first}");
     }
-    Ok(())
 }

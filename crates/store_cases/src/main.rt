@@ -8,6 +8,7 @@ mod growth;
 mod handles;
 mod hosts;
 mod limits;
+mod page;
 mod pending;
 mod roots;
 
@@ -19,13 +20,14 @@ use crate::growth::run_growth;
 use crate::handles::{run_marked, run_owned, run_unnamed};
 use crate::hosts::{run_hosts, run_stale_hosts, run_strangers};
 use crate::limits::{run_configurations, run_firsts, run_ids, run_page_limit, run_scripted};
+use crate::page::Page;
 use crate::pending::run_pending;
 use crate::roots::{run_roots, run_scopes};
 use gc_copying::CopyingHeap;
 use gc_drc::DrcHeap;
 use gc_heap::{GcHeap, NullHeap};
 use gc_store::{HeapConfig, PageLimit, Store, StoreId};
-use std::alloc::{AllocError, Global};
+use std::alloc::Global;
 
 /// The most scoped roots of a store here.
 const MAX_SCOPED: u32 = 4;
@@ -46,12 +48,13 @@ const STRANGER: StoreId = StoreId {
 };
 
 /// Writes what needs no store.
-fn run_alone(alloc: Global, out: &mut String) -> Result<(), AllocError> {
-    run_configurations(out)?;
-    run_ids(out)?;
-    run_page_limit(out)?;
-    run_scripted(alloc, out)?;
-    run_firsts(out)
+fn run_alone(alloc: Global, page: &mut Page) {
+    run_configurations(page);
+    run_ids(page);
+    run_page_limit(page);
+    let asked = run_scripted(alloc, page);
+    page.keep(asked);
+    run_firsts(page)
 }
 
 /// Runs the cases of handles that need no host value.
@@ -59,12 +62,12 @@ fn run_handles<H: GcHeap>(
     alloc: Global,
     store: &mut Store<H, u64>,
     stranger: &mut Store<H, u64>,
-    out: &mut String,
+    page: &mut Page,
 ) -> Result<(), CaseFault> {
-    run_growth(alloc, store, out)?;
-    run_unnamed(store, stranger, out)?;
-    run_marked(store, stranger, out)?;
-    run_owned(store, stranger, out)
+    run_growth(alloc, store, page)?;
+    run_unnamed(store, stranger, page);
+    run_marked(store, stranger, page)?;
+    run_owned(store, stranger, page)
 }
 
 /// Runs the cases of host values.
@@ -72,11 +75,11 @@ fn run_values<H: GcHeap>(
     store: &mut Store<H, u64>,
     stranger: &mut Store<H, u64>,
     limiter: &mut PageLimit,
-    out: &mut String,
+    page: &mut Page,
 ) -> Result<(), CaseFault> {
-    run_hosts(store, limiter, out)?;
-    run_strangers(store, stranger, limiter, out)?;
-    run_stale_hosts(store, limiter, out)
+    run_hosts(store, limiter, page)?;
+    run_strangers(store, stranger, limiter, page)?;
+    run_stale_hosts(store, limiter, page)
 }
 
 /// Runs all cases on a store, with another one whose handles are none of its own.
@@ -84,14 +87,15 @@ fn run_cases<H: GcHeap>(
     alloc: Global,
     store: &mut Store<H, u64>,
     stranger: &mut Store<H, u64>,
-    out: &mut String,
+    page: &mut Page,
 ) -> Result<(), CaseFault> {
     let mut limiter = PageLimit::new(MAX_PAGES);
-    run_handles(alloc, store, stranger, out)?;
-    run_values(store, stranger, &mut limiter, out)?;
-    run_pending(alloc, store, &mut limiter, out)?;
-    run_scopes(store, out)?;
-    run_roots(store, out)
+    run_handles(alloc, store, stranger, page)?;
+    run_values(store, stranger, &mut limiter, page)?;
+    run_pending(alloc, store, &mut limiter, page);
+    run_scopes(store, page)?;
+    run_roots(store, page);
+    Ok(())
 }
 
 /// Runs all cases over these heaps.
@@ -100,7 +104,7 @@ fn run_over<H: GcHeap + Drop>(
     config: HeapConfig,
     heap: H,
     other: H,
-    out: &mut String,
+    page: &mut Page,
 ) -> Result<(), CaseFault>
     requires sound { H.sound heap }
     requires empty { H.seen heap ≡ detached }
@@ -109,40 +113,37 @@ fn run_over<H: GcHeap + Drop>(
 {
     let mut stranger = Store::new(alloc, STRANGER, other, config)?;
     let mut store = Store::new(alloc, STORE, heap, config)?;
-    run_cases(alloc, &mut store, &mut stranger, out)
+    run_cases(alloc, &mut store, &mut stranger, page)
 }
 
 /// Runs all cases over heaps of each kind.
-fn run_kinds(alloc: Global, config: HeapConfig, out: &mut String) -> Result<(), CaseFault> {
-    out.push_str("== null\n")?;
-    run_over(
-        alloc,
-        config,
-        NullHeap::new(alloc),
-        NullHeap::new(alloc),
-        out,
-    )?;
-    out.push_str("== counting\n")?;
-    run_over(alloc, config, DrcHeap::new(alloc), DrcHeap::new(alloc), out)?;
-    out.push_str("== copying\n")?;
-    run_over(
-        alloc,
-        config,
-        CopyingHeap::new(alloc),
-        CopyingHeap::new(alloc),
-        out,
-    )
+fn run_kinds(alloc: Global, config: HeapConfig, page: &mut Page) -> Result<(), CaseFault> {
+    writeln!(page, "== null");
+    let (heap, other) = (NullHeap::new(alloc), NullHeap::new(alloc));
+    run_over(alloc, config, heap, other, page)?;
+    writeln!(page, "== counting");
+    let (heap, other) = (DrcHeap::new(alloc), DrcHeap::new(alloc));
+    run_over(alloc, config, heap, other, page)?;
+    writeln!(page, "== copying");
+    let (heap, other) = (CopyingHeap::new(alloc), CopyingHeap::new(alloc));
+    run_over(alloc, config, heap, other, page)
+}
+
+/// Runs all cases.
+fn run_all(alloc: Global, page: &mut Page) -> Result<(), CaseFault> {
+    let Some(config) = HeapConfig::new(1, MAX_SCOPED, MAX_SCOPED, None) else {
+        return Err(CaseFault::NoStore);
+    };
+    run_alone(alloc, page);
+    run_kinds(alloc, config, page)
 }
 
 /// What must be printed.
 fn answers(alloc: Global) -> Result<String, CaseFault> {
-    let Some(config) = HeapConfig::new(1, MAX_SCOPED, MAX_SCOPED, None) else {
-        return Err(CaseFault::NoStore);
-    };
-    let mut out = String::new(alloc);
-    run_alone(alloc, &mut out)?;
-    run_kinds(alloc, config, &mut out)?;
-    Ok(out)
+    let mut page = Page::new(alloc);
+    let ran = run_all(alloc, &mut page);
+    page.keep(ran);
+    page.finish()
 }
 
 fn main(rt: HostRuntime) -> Result<(), CaseFault> {

@@ -1,10 +1,11 @@
 //! The pending exception, as an embedder sees it.
 
 use crate::fault::CaseFault;
+use crate::page::Page;
 use gc_heap::GcHeap;
 use gc_script::{Runner, parse_line};
 use gc_store::{PageLimit, Store};
-use std::alloc::{AllocError, Global};
+use std::alloc::Global;
 
 /// A script that throws an exception.
 const THROW: &str = "exn\nnewexn 0 0 7\nthrow 0";
@@ -51,12 +52,12 @@ fn run<H: GcHeap>(
 }
 
 /// Writes what is pending.
-fn show<H: GcHeap>(store: &Store<H, u64>, out: &mut String) -> Result<(), AllocError> {
+fn show<H: GcHeap>(store: &Store<H, u64>, page: &mut Page) {
     let is_pending = store.has_pending_exception();
-    writeln!(out, "has_pending_exception: {is_pending}")?;
+    writeln!(page, "has_pending_exception: {is_pending}");
     match store.pending_exception_tag_and_instance() {
-        Some(tag) => writeln!(out, "pending: {} {}", tag.instance, tag.index),
-        None => out.push_str("pending: none\n"),
+        Some(tag) => writeln!(page, "pending: {} {}", tag.instance, tag.index),
+        None => writeln!(page, "pending: none"),
     }
 }
 
@@ -65,11 +66,11 @@ pub(crate) fn run_pending<H: GcHeap>(
     alloc: Global,
     store: &mut Store<H, u64>,
     limiter: &mut PageLimit,
-    out: &mut String,
-) -> Result<(), CaseFault> {
-    show(store, out)?;
-    run(alloc, store, limiter, THROW)?;
-    show(store, out)?;
-    run(alloc, store, limiter, TAKE)?;
-    Ok(show(store, out)?)
+    page: &mut Page,
+) {
+    show(store, page);
+    page.keep(run(alloc, store, limiter, THROW));
+    show(store, page);
+    page.keep(run(alloc, store, limiter, TAKE));
+    show(store, page)
 }

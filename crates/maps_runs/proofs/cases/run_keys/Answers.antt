@@ -5,14 +5,14 @@ use Rattle.maps_runs.proofs.Shelving.{alone_on, behind_on}
 pub show-requires : goal.show-requires
 show-requires g c =
     let both = c.in_ok-other.ensures.shelf [] c.in_ok-map.ensures in
-    (c.in_ok-kit.kit, alone_on g.H.GcHeap.KIND c.put.new.store c.in_ok-kit.kit c.in_ok-other.other.root (c.in_ok-map.map.root ∷ []) both)
+    (c.args.kit.now, alone_on g.H.GcHeap.KIND c.put.new.store c.args.kit.now c.in_ok-other.other.root (c.in_ok-map.map.root ∷ []) both)
 
 pub all-requires : goal.all-requires
 all-requires g c =
-    let both = c.show.ensures c.in_ok-kit.kit (c.in_ok-map.map.root ∷ []) (c.in_ok-other.ensures.shelf [] c.in_ok-map.ensures) in
-    (c.in_ok-kit.kit, alone_on g.H.GcHeap.KIND c.show.new.store c.in_ok-kit.kit c.in_ok-other.other.root (c.in_ok-map.map.root ∷ []) both)
+    let both = c.show.ensures c.args.kit.now (c.in_ok-map.map.root ∷ []) (c.in_ok-other.ensures.shelf [] c.in_ok-map.ensures) in
+    (c.args.kit.now, alone_on g.H.GcHeap.KIND c.show.new.store c.args.kit.now c.in_ok-other.other.root (c.in_ok-map.map.root ∷ []) both)
 
 pub show-requires-2 : goal.show-requires-2
 show-requires-2 g c =
-    let both = c.show.ensures c.in_ok-kit.kit (c.in_ok-map.map.root ∷ []) (c.in_ok-other.ensures.shelf [] c.in_ok-map.ensures) in
-    (c.in_ok-kit.kit, behind_on g.H.GcHeap.KIND c.all.new.store c.in_ok-kit.kit c.in_ok-other.other.root (c.in_ok-map.map.root ∷ []) (c.all.ensures c.in_ok-kit.kit (c.in_ok-map.map.root ∷ []) both))
+    let both = c.show.ensures c.args.kit.now (c.in_ok-map.map.root ∷ []) (c.in_ok-other.ensures.shelf [] c.in_ok-map.ensures) in
+    (c.args.kit.now, behind_on g.H.GcHeap.KIND c.all.new.store c.args.kit.now c.in_ok-other.other.root (c.in_ok-map.map.root ∷ []) (c.all.ensures c.args.kit.now (c.in_ok-map.map.root ∷ []) both))
