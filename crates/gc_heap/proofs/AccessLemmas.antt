@@ -10,6 +10,9 @@ use Rattle.gc_refs.specs.Views.{part_of, ReadsNumber}
 use Rattle.gc_refs.specs.declared.fault.DataFault.{DataFault}
 use Rattle.gc_view.specs.Heaps.{HeapObject, HeapView}
 use Rattle.gc_heap.specs.Objects.{held_size, size_with, data_offset, HasFields, IsObjectData}
+use Rattle.gc_heap.specs.Lying.{LiesIn}
+use Rattle.gc_heap.specs.LentMemory.{IsMemoryOf}
+use Rattle.gc_heap.proofs.LyingLemmas.{header_inside, least_lies}
 use Rattle.gc_heap.specs.Access.{IsReadable, data_part, ReadsData}
 
 -- a struct, an array or an exception: where its data begins, and how many bytes it takes
@@ -56,6 +59,41 @@ part_in_data layouts o bytes offset n fields told from to =
     ∙ sym (part-part bytes base (length o.bytes) (offset - base) n (omega arith))
     ∙ ap (λ bs. take n (drop (offset - base) bs)) data_is
 
+same_object : (a b : HeapObject) → Some a ≡ Some b → a ≡ b
+same_object a b e = cc
+
+-- so much of an object's data as it lies in the memory
+pub data_lies : (layouts : Layouts) (bytes : List ℕ) (place : ℕ) (o : HeapObject) (offset n : ℕ) → LiesIn layouts bytes place o → HasFields o.kind
+    → struct_base layouts ≤ offset → offset + n ≤ held_size layouts o → take n (drop (place + offset) bytes) ≡ data_part layouts o offset n
+data_lies layouts bytes place o offset n l fields from to =
+    let all : List ℕ = take (held_size layouts o) (drop place bytes) in
+    let first : offset ≡ offset - 0 = omega arith in
+    sym (part-part bytes place (held_size layouts o) offset n to)
+    ∙ ap (λ at. take n (drop at all)) first
+    ∙ part_in_data layouts o all offset n fields l.object from to
+
+-- what is readable lies in the memory
+pub readable_lies : (layouts : Layouts) (h : HeapView) (bytes : List ℕ) (place offset n : ℕ) → IsMemoryOf layouts h bytes → IsReadable layouts h place offset n
+    → place + offset + n ≤ length bytes
+readable_lies layouts h bytes place offset n m inside =
+    let lies = (m.objects place inside.object inside.held).lies in
+    omega (arith, lies.inside, inside.to)
+
+-- so do the words of a held object's header
+pub header_lies_within : (layouts : Layouts) (h : HeapView) (bytes : List ℕ) (place : ℕ) (o : HeapObject) → IsMemoryOf layouts h bytes → get h.content place ≡ Some o
+    → place + 8 ≤ length bytes
+header_lies_within layouts h bytes place o m held =
+    let l = m.objects place o held in
+    omega (arith, l.lies.inside, header_inside layouts (held_size layouts o) (least_lies layouts bytes place o l))
+
+-- what lies there in the memory of the object that is held there is what its data says
+pub lies_as_data : (layouts : Layouts) (h : HeapView) (bytes : List ℕ) (place offset n : ℕ) (value : List ℕ) → IsMemoryOf layouts h bytes → IsReadable layouts h place offset n
+    → value ≡ take n (drop (place + offset) bytes) → ReadsData layouts h place offset n (λ part. part) value
+lies_as_data layouts h bytes place offset n value m inside is = λ o held.
+    let same : inside.object ≡ o = same_object _ _ (sym inside.held ∙ held) in
+    is ∙ data_lies layouts bytes place o offset n (m.objects place o held) (subst (λ o. HasFields o.kind) same inside.has_fields) inside.from
+    (subst (λ o. offset + n ≤ held_size layouts o) same inside.to)
+
 -- what a view of the object that is held there reads is what its data says
 pub reads_data : {A : Type 0} (number : List ℕ → A) (layouts : Layouts) (h : HeapView) (place offset n : ℕ) (bytes : List ℕ) (result : Result A DataFault) (value : A)
     → IsReadable layouts h place offset n
@@ -63,9 +101,6 @@ pub reads_data : {A : Type 0} (number : List ℕ → A) (layouts : Layouts) (h :
     → ReadsNumber n number 0 bytes offset result → result ≡ Ok value
     → ReadsData layouts h place offset n number value
 reads_data number layouts h place offset n bytes result value inside told read ok = λ o held.
-    let same : inside.object ≡ o = some_is _ _ (sym inside.held ∙ held) in
+    let same : inside.object ≡ o = same_object _ _ (sym inside.held ∙ held) in
     let is_read = subst (λ r. ReadsNumber n number 0 bytes offset r) ok read in
     is_read.1 ∙ ap number (part_in_data layouts o bytes offset n (subst (λ o. HasFields o.kind) same inside.has_fields) (told o held) inside.from (subst (λ o. offset + n ≤ held_size layouts o) same inside.to))
-  where
-    some_is : (a b : HeapObject) → Some a ≡ Some b → a ≡ b
-    some_is a b e = cc

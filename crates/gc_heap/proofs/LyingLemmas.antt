@@ -46,7 +46,7 @@ size_told Null bytes place o l =
 size_told Counting bytes place o l = sym (word_lies Counting bytes place o l 20 (omega (arith, least_lies Counting bytes place o l))) ∙ l.object.size_word
 size_told Copying bytes place o l = sym (word_lies Copying bytes place o l 8 (omega (arith, least_lies Copying bytes place o l))) ∙ l.object.size_word
 
-header_inside : (layouts : Layouts) (n : ℕ) → struct_base layouts ≤ n → 8 ≤ n
+pub header_inside : (layouts : Layouts) (n : ℕ) → struct_base layouts ≤ n → 8 ≤ n
 header_inside Null n h = h
 header_inside Counting n h = omega arith
 header_inside Copying n h = omega arith

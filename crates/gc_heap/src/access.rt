@@ -8,40 +8,58 @@ ghost use Rattle.std.specs.FinMap as finite;
 ghost use Rattle.std.specs.Int.{w8, w16, w32, w64, w128};
 ghost use Rattle.gc_refs.specs.LittleEndian.{unsigned_at, unsigned_bytes};
 ghost use Rattle.gc_view.specs.Heaps.{HeapObject};
-ghost use Rattle.gc_heap.specs.Objects.{IsObjectData};
+ghost use Rattle.gc_heap.specs.Objects.{IsHeaderOf};
 ghost use Rattle.gc_heap.specs.Content.{IsHeld};
 ghost use Rattle.gc_heap.specs.Heap.{IsWritable};
 ghost use Rattle.gc_heap.specs.Access.{IsReadable, ReadsData, WritesData};
 
 use crate::heap::GcHeap;
-use gc_refs::{V128, VMGcObjectData, VMGcRef};
+use gc_refs::{V128, VMGcHeader, VMGcRef};
 
-/// Lends the bytes of a held object.
+/// The header of a held object.
 #[inline(always)]
-fn data_of<'a, H: GcHeap>(heap: &'a H, gc_ref: &VMGcRef) -> VMGcObjectData<'a>
+pub fn header_of<H: GcHeap>(heap: &H, gc_ref: &VMGcRef) -> VMGcHeader
     requires sound { H.sound heap.now }
     requires held { IsHeld (H.seen heap.now) gc_ref.now }
-    ensures { (object : HeapObject) → finite.get (H.seen heap.now).content gc_ref.now ≡ Some object → IsObjectData H.KIND object result }
+    ensures { (object : HeapObject) → finite.get (H.seen heap.now).content gc_ref.now ≡ Some object → IsHeaderOf H.KIND object result }
 {
-    heap.gc_object_data(gc_ref).unwrap()
+    match heap.memory() {
+        Some(memory) => memory.read_header(gc_ref.as_raw_u32() as usize),
+        None => unreachable!(),
+    }
+}
+
+/// The N bytes at an offset of an object, which are read where they lie in the memory, with no test.
+#[inline(always)]
+fn bytes_of<H: GcHeap, const N: usize>(heap: &H, gc_ref: &VMGcRef, offset: u32) -> [u8; N]
+    requires sound { H.sound heap.now }
+    requires inside { IsReadable H.KIND (H.seen heap.now) gc_ref.now offset N }
+    ensures { ReadsData H.KIND (H.seen heap.now) gc_ref.now offset N (λ bytes. bytes) result }
+{
+    match heap.memory() {
+        Some(memory) => memory.read_bytes(gc_ref.as_raw_u32() as usize + offset as usize),
+        None => unreachable!(),
+    }
 }
 
 /// The byte at an offset of an object.
+#[inline(always)]
 pub fn read_u8<H: GcHeap>(heap: &H, gc_ref: &VMGcRef, offset: u32) -> u8
     requires sound { H.sound heap.now }
     requires inside { IsReadable H.KIND (H.seen heap.now) gc_ref.now offset 1 }
     ensures { ReadsData H.KIND (H.seen heap.now) gc_ref.now offset 1 (unsigned_at w8) result }
 {
-    data_of(heap, gc_ref).read_u8(offset).unwrap()
+    u8::from_le_bytes(bytes_of(heap, gc_ref, offset))
 }
 
 /// The 16-bit number at an offset of an object.
+#[inline(always)]
 pub fn read_u16<H: GcHeap>(heap: &H, gc_ref: &VMGcRef, offset: u32) -> u16
     requires sound { H.sound heap.now }
     requires inside { IsReadable H.KIND (H.seen heap.now) gc_ref.now offset 2 }
     ensures { ReadsData H.KIND (H.seen heap.now) gc_ref.now offset 2 (unsigned_at w16) result }
 {
-    data_of(heap, gc_ref).read_u16(offset).unwrap()
+    u16::from_le_bytes(bytes_of(heap, gc_ref, offset))
 }
 
 /// The 32-bit number at an offset of an object.
@@ -51,7 +69,7 @@ pub fn read_u32<H: GcHeap>(heap: &H, gc_ref: &VMGcRef, offset: u32) -> u32
     requires inside { IsReadable H.KIND (H.seen heap.now) gc_ref.now offset 4 }
     ensures { ReadsData H.KIND (H.seen heap.now) gc_ref.now offset 4 (unsigned_at w32) result }
 {
-    data_of(heap, gc_ref).read_u32(offset).unwrap()
+    u32::from_le_bytes(bytes_of(heap, gc_ref, offset))
 }
 
 /// The 64-bit number at an offset of an object.
@@ -61,16 +79,17 @@ pub fn read_u64<H: GcHeap>(heap: &H, gc_ref: &VMGcRef, offset: u32) -> u64
     requires inside { IsReadable H.KIND (H.seen heap.now) gc_ref.now offset 8 }
     ensures { ReadsData H.KIND (H.seen heap.now) gc_ref.now offset 8 (unsigned_at w64) result }
 {
-    data_of(heap, gc_ref).read_u64(offset).unwrap()
+    u64::from_le_bytes(bytes_of(heap, gc_ref, offset))
 }
 
 /// The vector value at an offset of an object.
+#[inline(always)]
 pub fn read_v128<H: GcHeap>(heap: &H, gc_ref: &VMGcRef, offset: u32) -> V128
     requires sound { H.sound heap.now }
     requires inside { IsReadable H.KIND (H.seen heap.now) gc_ref.now offset 16 }
     ensures { ReadsData H.KIND (H.seen heap.now) gc_ref.now offset 16 (unsigned_at w128) result }
 {
-    data_of(heap, gc_ref).read_v128(offset).unwrap()
+    V128::from(u128::from_le_bytes(bytes_of(heap, gc_ref, offset)))
 }
 
 /// Writes a byte at an offset of an object.

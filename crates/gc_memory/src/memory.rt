@@ -47,10 +47,9 @@ fn bytes_at<const N: usize>(bytes: &[u8], at: usize) -> [u8; N]
     requires { at + N ≤ length bytes.now }
     ensures { result ≡ take N (drop at bytes.now) }
 {
-    match bytes[at..].first_chunk() {
-        Some(part) => *part,
-        None => unreachable!(),
-    }
+    let mut part = [0; N];
+    part.copy_from_slice(&bytes[at..at + N]);
+    part
 }
 
 /// The 32-bit number at an offset, its lowest byte first.
@@ -196,6 +195,15 @@ impl HeapMemory {
         for index in 0..count / BLOCK {
             self.copy_block(from + BLOCK * index, to + BLOCK * index);
         }
+    }
+
+    /// The N bytes from an offset on.
+    #[inline(always)]
+    pub fn read_bytes<const N: usize>(&self, at: usize) -> [u8; N]
+        requires { at + N ≤ length self.now }
+        ensures { result ≡ take N (drop at self.now) }
+    {
+        bytes_at(&self.bytes, at)
     }
 
     /// The 32-bit number at an offset, its lowest byte first.
