@@ -1,5 +1,8 @@
 -- The offsets that are left to scan, of each form.
-use Rattle.std.proofs.Common.{◌≡◌, ℕ, zero, suc, ◌+◌, ◌*◌, ◌/◌, ◌%◌, ◌<◌, ◌≤◌, ◌^◌, List, [], ◌∷◌, length, drop, get_or, refl, ap, subst, ◌∙◌, arith}
+use Rattle.std.proofs.Common.{◌≡◌, ℕ, zero, suc, ◌+◌, ◌*◌, ◌/◌, ◌%◌, ◌<◌, ◌≤◌, ◌^◌, List, [], ◌∷◌, length, drop, get_or, refl, sym, ap, subst, ◌∙◌, arith}
+use Rattle.std.specs.Int.{bit_at, trailing_zeros, w32}
+use Rattle.std.proofs.lemmas.Nat.Bits.{bit_at_lowest, bit_at-suc, bit_at-zero, bit_at-trailing_zeros}
+use Rattle.std.proofs.Math.Nat.{div-one, div-div-eq-div-mul, pow-succ'}
 use Rattle.gc_heap.specs.References.{bit_offsets, word_offsets}
 use Rattle.std.proofs.Math.Seq.{drop-cons, drop-length}
 use Rattle.gc_heap.proofs.SpacedLemmas.{no_bits, bit_set, bit_clear}
@@ -28,31 +31,61 @@ pub bits_start : (h : Space) (q bits count : ℕ) → bits < 8388608 → BitsLef
 unfolding bitmap_places
 bits_start h q bits count small = record { n = 23; at = refl; has = bitmap_bits bits small; going = going_start h q (bit_offsets 12 23 bits) count }
 
--- of some bits there is a first
-pub record FirstBit (old now : Space) (q : ℕ) (all : List ℕ) (rest offset counted count : ℕ) : Type 0 where
-  pub n : ℕ
-  pub at : offset + 4 + 4 * n ≡ 104
-  pub has : HasBits n (rest / 2)
-  pub going : Going old now q all (bit_offsets offset (suc n) rest) counted count
+-- Behind bits that are clear stands one that is set: what its offset is, and what is left behind it.
+record SetBehind (n offset rest skipped : ℕ) : Type 0 where
+  more : ℕ
+  at : offset + 4 * skipped + 4 + 4 * more ≡ offset + 4 * n
+  has : HasBits more (rest / 2 ^ skipped / 2)
+  places : bit_offsets offset n rest ≡ (offset + 4 * skipped) ∷ bit_offsets (offset + 4 * skipped + 4) more (rest / 2 ^ skipped / 2)
 
-first_by : (n : ℕ) (old now : Space) (q : ℕ) (all : List ℕ) (rest offset counted count : ℕ) → offset + 4 * n ≡ 104 → HasBits n rest
-    → Going old now q all (bit_offsets offset n rest) counted count → (rest ≡ 0 → ⊥) → FirstBit old now q all rest offset counted count
-first_by zero old now q all rest offset counted count at has going some = absurd (some has)
-first_by (suc n) old now q all rest offset counted count at has going some = record { n = n; at = omega arith; has = has; going = going }
+no_bit_set : (rest i : ℕ) → rest ≡ 0 → bit_at rest i ≡ 1 → ⊥
+no_bit_set rest i none set = let clear = bit_at-zero i in omega (arith, (sym (ap (λ (r : ℕ). bit_at r i) none) ∙ set), clear)
+
+set_behind : (skipped n offset rest : ℕ) → HasBits n rest → ((i : ℕ) → i < skipped → bit_at rest i ≡ 0) → bit_at rest skipped ≡ 1 → SetBehind n offset rest skipped
+set_behind skipped zero offset rest has clear set = absurd (no_bit_set rest skipped has set)
+set_behind zero (suc n) offset rest has clear set =
+    let whole : rest / 2 ^ 0 ≡ rest = div-one rest in
+    let here : offset + 4 * 0 ≡ offset = omega arith in
+    let odd : rest % 2 ≡ 1 = sym (bit_at_lowest rest) ∙ set in
+    record {
+      more = n;
+      at = omega arith;
+      has = subst (λ (r : ℕ). HasBits n (r / 2)) (sym whole) has;
+      places = bit_set offset n rest odd ∙ sym (λ i. here i ∷ bit_offsets (here i + 4) n (whole i / 2));
+    }
+set_behind (suc skipped) (suc n) offset rest has clear set =
+    let behind = set_behind skipped n (offset + 4) (rest / 2) has (λ i h. sym (bit_at-suc rest i) ∙ clear (suc i) (omega arith)) (sym (bit_at-suc rest skipped) ∙ set) in
+    let even : rest % 2 ≡ 0 = sym (bit_at_lowest rest) ∙ clear 0 (omega arith) in
+    let halved : rest / 2 / 2 ^ skipped ≡ rest / 2 ^ suc skipped = div-div-eq-div-mul rest 2 (2 ^ skipped) ∙ ap (λ (d : ℕ). rest / d) (sym (pow-succ' 2 skipped)) in
+    let here : offset + 4 + 4 * skipped ≡ offset + 4 * suc skipped = omega arith in
+    record {
+      more = behind.more;
+      at = omega (arith, behind.at);
+      has = subst (λ (r : ℕ). HasBits behind.more (r / 2)) halved behind.has;
+      places = bit_clear offset n rest even ∙ behind.places ∙ (λ i. here i ∷ bit_offsets (here i + 4) behind.more (halved i / 2));
+    }
+
+-- of some bits the first that is set
+pub record FirstBit (old now : Space) (q : ℕ) (all : List ℕ) (rest offset skipped counted count : ℕ) : Type 0 where
+  pub n : ℕ
+  pub at : offset + 4 * skipped + 4 + 4 * n ≡ 104
+  pub has : HasBits n (rest / 2 ^ skipped / 2)
+  pub going : Going old now q all ((offset + 4 * skipped) ∷ bit_offsets (offset + 4 * skipped + 4) n (rest / 2 ^ skipped / 2)) counted count
 
 pub first_bit : (old now : Space) (q : ℕ) (all : List ℕ) (rest offset counted count : ℕ) → BitsLeft old now q all rest offset counted count → (rest ≡ 0 → ⊥)
-    → FirstBit old now q all rest offset counted count
-first_bit old now q all rest offset counted count left some = first_by left.n old now q all rest offset counted count left.at left.has left.going some
-
--- where it is set
-pub first_set : (old now : Space) (q : ℕ) (all : List ℕ) (rest offset counted count : ℕ) → (left : FirstBit old now q all rest offset counted count) → rest % 2 ≡ 1
-    → Going old now q all (offset ∷ bit_offsets (offset + 4) left.n (rest / 2)) counted count
-first_set old now q all rest offset counted count left e = going_as old now q all _ _ counted count (bit_set offset left.n rest e) left.going
-
--- where it isn't
-pub first_clear : (old now : Space) (q : ℕ) (all : List ℕ) (rest offset counted count : ℕ) → (left : FirstBit old now q all rest offset counted count) → rest % 2 ≡ 0
-    → Going old now q all (bit_offsets (offset + 4) left.n (rest / 2)) counted count
-first_clear old now q all rest offset counted count left e = going_as old now q all _ _ counted count (bit_clear offset left.n rest e) left.going
+    → rest < 2 ^ 32 → FirstBit old now q all rest offset (trailing_zeros w32 rest) counted count
+first_bit old now q all rest offset counted count left some small =
+    let first = bit_at-trailing_zeros w32 rest (positive rest some) small in
+    let behind = set_behind (trailing_zeros w32 rest) left.n offset rest left.has first.2 first.1 in
+    record {
+      n = behind.more;
+      at = omega (arith, behind.at, left.at);
+      has = behind.has;
+      going = going_as old now q all _ _ counted count behind.places left.going;
+    }
+  where
+    positive : (n : ℕ) → (n ≡ 0 → ⊥) → 0 < n
+    positive n some = omega arith
 
 -- no bit is left
 pub last_bit : (old now : Space) (q : ℕ) (all : List ℕ) (rest offset counted count : ℕ) → BitsLeft old now q all rest offset counted count → rest ≡ 0

@@ -48,9 +48,10 @@ impl Space {
         let mut rest = bits;
         let mut offset = FIRST_FIELD;
         while rest != 0 {
-            if rest % 2 == 1 {
-                self.scan_field(copy, offset, steps);
-            }
+            let skipped = rest.trailing_zeros();
+            rest >>= skipped;
+            offset += 4 * skipped;
+            self.scan_field(copy, offset, steps);
             rest /= 2;
             offset += 4;
         }
