@@ -17,6 +17,7 @@ use gc_store::{GcClass, RawValue, RootedObject, Store};
 use gc_types::{RefType, StorageType, ValType};
 
 /// Whether a reference fits the type, by the object that it names: none where it is null.
+#[inline(always)]
 fn reference_fits<H: GcHeap>(
     store: &Store<H, u64>,
     ty: &RefType,
@@ -33,6 +34,7 @@ fn reference_fits<H: GcHeap>(
 }
 
 /// Whether a number is of that type.
+#[inline(always)]
 fn number_fits(ty: ValType, value: &RawValue) -> bool
     ensures { result ≡ number_fits ty value.now }
 {
@@ -48,6 +50,7 @@ fn number_fits(ty: ValType, value: &RawValue) -> bool
 
 /// Whether a value that is no function or continuation fits the type of a field or an element, by the object that it
 /// names, where it names one.
+#[inline(always)]
 pub(crate) fn fits<H: GcHeap>(
     store: &Store<H, u64>,
     ty: StorageType,

@@ -150,6 +150,7 @@ impl Runner {
     }
 
     /// Makes a struct of type `t`, and puts it into register `d`.
+    #[inline(always)]
     pub(crate) fn make_struct<H: GcHeap, L: ResourceLimiter>(
         &mut self,
         store: &mut Store<H, u64>,

@@ -24,6 +24,7 @@ impl Model for Registers {
 }
 
 /// Adds unset registers until there are so many.
+#[inline(always)]
 fn extend_to(slots: &mut Vec<Option<RawValue>>, wanted: usize) -> Result<(), AllocError>
     ensures room { OnOk result (wanted ≤ length slots.new.items) }
     ensures had_less { OnErr result (length slots.old.items < wanted) }

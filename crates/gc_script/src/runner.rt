@@ -118,6 +118,7 @@ impl Runner {
     }
 
     /// Runs a command that asks no limiter and collects nothing.
+    #[inline(always)]
     fn run_unasking<H: GcHeap>(
         &mut self,
         store: &mut Store<H, u64>,
@@ -161,6 +162,7 @@ impl Runner {
     /// Runs a command that asks no limiter, collects nothing and takes no memory.
     // Each arm is the answer as it is: an `Ok` around it would be one more room for a reply in each arm, and all of them
     // are cleared whatever the command is.
+    #[inline(always)]
     fn run_unfailing<H: GcHeap>(&mut self, store: &mut Store<H, u64>, command: &Command) -> Reply
         requires asks { asks_nothing command.now ≡ true }
         requires unfailing { takes_memory command.now ≡ false }

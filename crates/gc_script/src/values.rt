@@ -52,6 +52,7 @@ fn value_or_null(registers: &Registers, operand: &Operand) -> RawValue
 }
 
 /// Whether some operand is a register that is unset.
+#[inline(always)]
 pub(crate) fn any_unset(registers: &Registers, operands: &[Operand]) -> bool
     ensures unset { IsTrue result → HasUnset registers.now operands.now }
     ensures set { result ≡ false → AreSet registers.now operands.now }
@@ -65,6 +66,7 @@ pub(crate) fn any_unset(registers: &Registers, operands: &[Operand]) -> bool
 }
 
 /// Makes a list that of the values of operands, none of which is a register that is unset. Its room is used again.
+#[inline(always)]
 pub(crate) fn give_values(
     values: &mut Vec<RawValue>,
     registers: &Registers,
@@ -100,6 +102,7 @@ pub(crate) fn is_opaque(value: &RawValue) -> bool
 
 /// What a value names: nothing where it is a number or null. `Unrooted` where its root is gone. No function and no
 /// continuation stands in a register.
+#[inline(always)]
 fn named_by<H: GcHeap>(
     store: &Store<H, u64>,
     value: &RawValue,
@@ -137,6 +140,7 @@ pub(crate) fn is_live<H: GcHeap>(store: &Store<H, u64>, value: &RawValue) -> boo
 
 /// Whether a value may go into a field or an element of that type: `Unrooted` where its root is gone, then
 /// `TypeMismatch`, also where there is no type.
+#[inline(always)]
 pub(crate) fn check_value<H: GcHeap>(
     store: &Store<H, u64>,
     field: Option<FieldType>,
@@ -163,6 +167,7 @@ pub(crate) fn check_value<H: GcHeap>(
 
 /// Whether the values of operands, none of which is a register that is unset, may go into fields or elements of these
 /// types; the first that may not says why.
+#[inline(always)]
 pub(crate) fn check_operands<H: GcHeap>(
     store: &Store<H, u64>,
     registers: &Registers,
