@@ -121,6 +121,7 @@ fn object_of<H: GcHeap>(
 
 /// The object that a register's value names: `Unrooted` where its root is gone, then `WrongKind` where it
 /// isn't one of these. It is that object in each table that the store holds.
+#[inline(always)]
 pub(crate) fn find_object<H: GcHeap>(
     store: &Store<H, u64>,
     value: &RawValue,

@@ -25,6 +25,7 @@ use gc_types::FieldType;
 use std::alloc::AllocError;
 
 /// Makes room for a register, where one is named.
+#[inline(always)]
 pub(crate) fn make_room(registers: &mut Registers, into: Option<u16>) -> Result<(), AllocError>
     ensures room { OnOk result (HasRegister into registers.new) }
     ensures had_none { OnErr result (LacksRegister into registers.old) }
@@ -37,6 +38,7 @@ pub(crate) fn make_room(registers: &mut Registers, into: Option<u16>) -> Result<
 }
 
 /// Puts a value into a register, where one is named.
+#[inline(always)]
 fn put_into(registers: &mut Registers, into: Option<u16>, value: RawValue)
     requires { HasRegister into registers.old }
     ensures { (d : ℕ) → register_at registers.new d ≡ register_with into (Some value) registers.old d }
@@ -49,6 +51,7 @@ fn put_into(registers: &mut Registers, into: Option<u16>, value: RawValue)
 
 /// Puts a value that was read into a register, where one is named, and shows it. No register takes a function or a
 /// continuation: it stays as it was.
+#[inline(always)]
 pub(crate) fn put_read<H: GcHeap>(
     registers: &mut Registers,
     store: &Store<H, u64>,

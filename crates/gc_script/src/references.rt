@@ -15,6 +15,7 @@ use gc_store::{GcClass, GcRootIndex, Store};
 impl Runner {
     /// The class and the handle of the reference in register `r`, without one for null: `NoSuchName` where the register is
     /// unset, `Unrooted` where its root is gone, `WrongKind` where it holds a number.
+    #[inline(always)]
     pub(crate) fn reference_in<H: GcHeap>(
         &self,
         store: &Store<H, u64>,

@@ -14,6 +14,7 @@ use gc_heap::GcHeap;
 use gc_store::{GcRootIndex, RawValue, RootedObject, Store};
 
 /// A reference that is not null as a reply shows it.
+#[inline(always)]
 fn shown_object(object: &RootedObject) -> ReplyValue
     ensures { (t : Table ℕ) (class : GcClass) (r : Reference) → IsReference t r object.now → result ≡ shown_value t (reference class r) }
 {
@@ -27,6 +28,7 @@ fn shown_object(object: &RootedObject) -> ReplyValue
 }
 
 /// A root or null as a reply shows it.
+#[inline(always)]
 pub fn shown_root<H: GcHeap>(store: &Store<H, u64>, handle: Option<GcRootIndex>) -> ReplyValue
     ensures { (t : Table ℕ) (class : GcClass) (v : Value) → HoldsTable H.KIND store.now t → RawStands store.now t (RawValue.Ref class handle) v
         → result ≡ shown_value t v }
@@ -43,6 +45,7 @@ pub fn shown_root<H: GcHeap>(store: &Store<H, u64>, handle: Option<GcRootIndex>)
 }
 
 /// A value as a reply shows it.
+#[inline(always)]
 pub(crate) fn shown<H: GcHeap>(store: &Store<H, u64>, value: &RawValue) -> ReplyValue
     ensures { (t : Table ℕ) (v : Value) → HoldsTable H.KIND store.now t → RawStands store.now t value.now v → result ≡ shown_value t v }
 {

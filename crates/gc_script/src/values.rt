@@ -129,6 +129,7 @@ fn named_by<H: GcHeap>(
 }
 
 /// Whether a value is a number, null, or the handle of a live root.
+#[inline(always)]
 pub(crate) fn is_live<H: GcHeap>(store: &Store<H, u64>, value: &RawValue) -> bool
     ensures live { IsTrue result → NamesLive ℕ H.KIND store.now value.now }
     ensures plain { IsTrue result → is_opaque value.now ≡ false }

@@ -31,6 +31,7 @@ pub(crate) struct Written {
 }
 
 /// Whether a value of that type may not be written once its object is made.
+#[inline(always)]
 fn is_constant(field: &Option<FieldType>) -> bool
     ensures { result ≡ is_constant field.now }
 {
@@ -41,6 +42,7 @@ fn is_constant(field: &Option<FieldType>) -> bool
 }
 
 /// Whether the value may be written at that index: `Immutable` where none may, then as `check_value` says.
+#[inline(always)]
 fn check_write<H: GcHeap>(
     store: &Store<H, u64>,
     written: &Written,
@@ -61,6 +63,7 @@ fn check_write<H: GcHeap>(
 }
 
 /// Writes a value that may be written and is no function or continuation. Takes no memory.
+#[inline(always)]
 fn write<H: GcHeap>(store: &mut Store<H, u64>, written: &Written, index: u32) -> Reply
     requires can { CanWrite ℕ H.KIND store.old written.now.object.root index written.now.value }
     requires plain { is_opaque written.now.value ≡ false }
@@ -77,6 +80,7 @@ fn write<H: GcHeap>(store: &mut Store<H, u64>, written: &Written, index: u32) ->
 
 impl Runner {
     /// The object that register `r` names, which is to be one of these, and the value of an operand.
+    #[inline(always)]
     fn find_written<H: GcHeap>(
         &self,
         store: &Store<H, u64>,
