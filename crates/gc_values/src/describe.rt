@@ -12,7 +12,7 @@ ghost use Rattle.gc_values.specs.Described.{TellsHeld, tag_of};
 
 use crate::root::RootedObject;
 use gc_heap::GcHeap;
-use gc_heap::access::read_u32;
+use gc_heap::access::{header_of, read_u32};
 use gc_refs::{VMArrayRef, VMGcHeader, VMGcRef};
 use gc_types::{Tag, VMGcKind};
 
@@ -54,9 +54,7 @@ pub fn describe_held<H: GcHeap>(heap: &H, gc_ref: &VMGcRef) -> RootedObject
     requires held { IsHeld (H.seen heap.now) gc_ref.now }
     ensures { TellsHeld (H.seen heap.now) gc_ref.now result }
 {
-    let Ok(header) = heap.header(gc_ref) else {
-        unreachable!()
-    };
+    let header = header_of(heap, gc_ref);
     let ty = header.type_index();
     match kind_of(&header) {
         VMGcKind::StructRef => RootedObject::Struct(ty),

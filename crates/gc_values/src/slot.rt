@@ -5,6 +5,7 @@ ghost use Rattle.gc_types.specs.Declarations.{elem_at};
 ghost use Rattle.gc_values.specs.HeldSlots.{HasStorageSlot, FindsSlot, IsHeldWithSlot, FindsHeldSlot};
 
 use gc_heap::GcHeap;
+use gc_heap::access::header_of;
 use gc_refs::VMGcRef;
 use gc_types::{FieldType, Layouts, StorageType, Types, VMSharedTypeIndex};
 
@@ -70,8 +71,6 @@ pub fn slot_in<H: GcHeap>(heap: &H, types: &Types, gc_ref: &VMGcRef, index: u32)
     requires has { IsHeldWithSlot H.KIND types.now.declarations (H.seen heap.now) gc_ref.now index }
     ensures { FindsHeldSlot H.KIND types.now.declarations (H.seen heap.now) gc_ref.now index result }
 {
-    let Ok(header) = heap.header(gc_ref) else {
-        unreachable!()
-    };
+    let header = header_of(heap, gc_ref);
     slot_at(types, H::KIND, header.type_index(), index)
 }

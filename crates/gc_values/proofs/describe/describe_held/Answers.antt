@@ -11,14 +11,14 @@ use Rattle.gc_values.proofs.describe.describe_held.Goals.{After-kind_of}
 use Rattle.gc_values.proofs.describe.describe_held.Goals as goal
 
 pub kind_of-requires : goal.kind_of-requires
-kind_of-requires g c = let o = c.requires.held.0 in (o.kind, sym (c.in-Ok.ensures.held o c.requires.held.1).kind)
+kind_of-requires g c = let o = c.requires.held.0 in (o.kind, sym (c.header_of-header.ensures o c.requires.held.1).kind)
 
 -- the kind is that of the object
 kind_is : (g : Over) (c : After-kind_of g) (o : HeapObject) → finite.get (g.H.GcHeap.seen c.args.heap.now).content c.args.gc_ref.now ≡ Some o → o.kind ≡ c.kind_of.result
-kind_is g c o held = sym (same_kind c.kind_of.result o.kind (c.kind_of.ensures ∙ (c.in-Ok.ensures.held o held).kind))
+kind_is g c o held = sym (same_kind c.kind_of.result o.kind (c.kind_of.ensures ∙ (c.header_of-header.ensures o held).kind))
 
 type_is : (g : Over) (c : After-kind_of g) (o : HeapObject) → finite.get (g.H.GcHeap.seen c.args.heap.now).content c.args.gc_ref.now ≡ Some o → c.type_index-ty.result ≡ o.ty
-type_is g c o held = c.type_index-ty.ensures ∙ (c.in-Ok.ensures.held o held).ty
+type_is g c o held = c.type_index-ty.ensures ∙ (c.header_of-header.ensures o held).ty
 
 -- objects are of four kinds
 object_kind : (g : Over) (c : After-kind_of g) → IsObjectKind c.kind_of.result
@@ -36,8 +36,8 @@ tag_of-requires-clause-held g c =
     let at = (goal.at.tag_of-requires-clause-held g c).After-kind_of in
     (c.requires.held.0, (c.requires.held.1, kind_is g at c.requires.held.0 c.requires.held.1 ∙ c.in-ExnRef.is))
 
-pub unreachable-requires-in-AnyRef : goal.unreachable-requires-in-AnyRef
-unreachable-requires-in-AnyRef g c = subst IsObjectKind c.in-AnyRef.is (object_kind g (goal.at.unreachable-requires-in-AnyRef g c).After-kind_of)
+pub unreachable-requires : goal.unreachable-requires
+unreachable-requires g c = subst IsObjectKind c.in-AnyRef.is (object_kind g (goal.at.unreachable-requires g c).After-kind_of)
 
 pub unreachable-requires-in-EqRef : goal.unreachable-requires-in-EqRef
 unreachable-requires-in-EqRef g c = subst IsObjectKind c.in-EqRef.is (object_kind g (goal.at.unreachable-requires-in-EqRef g c).After-kind_of)

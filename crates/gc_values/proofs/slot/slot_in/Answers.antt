@@ -10,9 +10,12 @@ use Rattle.gc_values.proofs.slot.slot_in.Given.{Over}
 use Rattle.gc_values.proofs.slot.slot_in.Goals.{After-type_index}
 use Rattle.gc_values.proofs.slot.slot_in.Goals as goal
 
+pub header_of-header-requires-clause-held : goal.header_of-header-requires-clause-held
+header_of-header-requires-clause-held g c = (c.requires.has.object, c.requires.has.held)
+
 -- the header tells the object's type
 type_is : (g : Over) (c : After-type_index g) (object : HeapObject) → finite.get (g.H.GcHeap.seen c.args.heap.now).content c.args.gc_ref.now ≡ Some object → c.type_index.result ≡ object.ty
-type_is g c object held = c.type_index.ensures ∙ (c.in-Ok.ensures.held object held).ty
+type_is g c object held = c.type_index.ensures ∙ (c.header_of-header.ensures object held).ty
 
 pub slot_at-requires : goal.slot_at-requires
 slot_at-requires g c =
