@@ -14,3 +14,4 @@ pub mod ShapeSlots
 pub mod SlotPlaces
 pub mod SlotWrites
 pub mod TagLemmas
+pub mod ValueSteps

@@ -1,21 +1,24 @@
 -- The slots of objects that a heap holds.
 use Rattle.std.specs.Prelude.{◌≡◌, ℕ, ◌-◌, ◌<◌, ◌^◌, List, Some, slice_get}
+use Rattle.std.specs.Int.{bytes_low_first}
 use Rattle.std.specs.FinMap as finite
 use Rattle.gc_types.specs.declared.kind.Layouts.{Layouts}
 use Rattle.gc_types.specs.declared.kind.VMGcKind.TheVariants.{StructRef, ArrayRef, ExnRef}
 use Rattle.gc_types.specs.Declarations.{Declaration, Shape, struct_of, array_of, exn_of, func_of}
-use Rattle.gc_types.specs.Layouts.{struct_base}
+use Rattle.gc_types.specs.Layouts.{struct_base, storage_width}
 use Rattle.gc_view.specs.Heaps.{HeapView, HeapObject}
 use Rattle.gc_view.specs.Slots.{StorageSlot, shape_slots}
 use Rattle.gc_heap.specs.Extents.{array_length}
 use Rattle.gc_heap.specs.Heap.{put_object, with_data}
 use Rattle.gc_owner.specs.Owners.{OwnerView}
-use Rattle.gc_model.specs.Forms.{Form, storage_form, number_at}
+use Rattle.gc_model.specs.Forms.{Form, InternedIds, storage_form, number_at}
 use Rattle.gc_model.proofs.ObjectShapes.{shape_at}
 use Rattle.gc_values.specs.declared.slot.Slot.{Slot}
 use Rattle.gc_values.specs.declared.stored.Stored.{Stored}
 use Rattle.gc_values.specs.declared.stored.Found.{Found}
-use Rattle.gc_values.specs.Kept.{OfForm, IsFound, FitsForm}
+use Rattle.gc_values.specs.declared.root.RawValue.{RawValue}
+use Rattle.gc_values.specs.Kept.{OfForm, IsFound, FitsForm, KeptAs, CanBeKept, kept_code, raw_form}
+use Rattle.gc_values.specs.Words.{AreOwnedRising, handle_roots}
 
 -- a slot as the code has it
 abbrev pub storage_slot : Slot → StorageSlot
@@ -75,6 +78,19 @@ abbrev pub WritesAt : {D : Type 0} → Layouts → OwnerView D → OwnerView D �
 WritesAt layouts old new place offset bytes =
     (o : HeapObject) → finite.get old.heap.content place ≡ Some o
     → new ≡ record old { heap = record (put_object old.heap place (with_data layouts o offset bytes)) { counts = new.heap.counts } }
+
+-- What is kept of a value may be written to a slot of a held object of an owner.
+pub record CanWriteKept {D : Type 0} (layouts : Layouts) (ids : InternedIds) (v : OwnerView D) (place : ℕ) (slot : StorageSlot) (r : RawValue) : Type 0 where
+  pub rising : AreOwnedRising v.roots.owned
+  pub kept : CanBeKept ids (handle_roots v.roots) r
+  pub goes : (x : Stored) → KeptAs ids (handle_roots v.roots) r x → CanWriteSlot layouts v place slot x
+
+-- the slot has the low bytes of what is kept of the value
+pub record WritesKept {D : Type 0} (layouts : Layouts) (ids : InternedIds) (old new : OwnerView D) (place : ℕ) (slot : StorageSlot) (r : RawValue) : Type 0 where
+  pub kept : Stored
+  pub kept_is : KeptAs ids (handle_roots old.roots) r kept
+  pub small : FitsForm (raw_form r) (kept_code kept)
+  pub writes : WritesAt layouts old new place slot.offset (bytes_low_first 0 (storage_width slot.storage) (kept_code kept))
 
 -- what lies at an offset of the object at a place is found, in a slot of that form and width
 abbrev pub FindsAt : Layouts → HeapView → ℕ → Form → ℕ → ℕ → Found → Type 0

@@ -1,6 +1,7 @@
 //! The values of a new object, which are all 0 before.
 
-ghost use Rattle.std.specs.Prelude.{◌≡◌, ◌<◌, ◌%◌, ℕ, true, length, slice_index_or};
+ghost use Rattle.std.specs.Prelude.{◌≡◌, ◌<◌, ◌%◌, ℕ, true, Some, None, length, slice_index_or};
+ghost use Rattle.gc_types.specs.Declarations.{elem_at};
 ghost use Rattle.gc_values.specs.declared.stored.Stored.TheVariants as kept;
 ghost use Rattle.gc_values.specs.HeldSlots.{storage_slot};
 ghost use Rattle.gc_values.specs.Interning.{ids_of};
@@ -10,13 +11,13 @@ ghost use Rattle.gc_values.specs.Filling.{ContentsFit, ContentsStand, asked_type
 use crate::interned::InternedValues;
 use crate::request::{Contents, Place};
 use crate::root::RawValue;
-use crate::slot::{Slot, slot_at};
-use crate::stored::{Stored, stored_value, write_slot};
+use crate::slot::{Slot, element_slot, field_slot, slot_at};
+use crate::stored::{Stored, stored_value, write_slot, write_value};
 use crate::tag::write_tag;
 use gc_heap::GcHeap;
 use gc_owner::HeapOwner;
 use gc_refs::VMGcRef;
-use gc_types::VMSharedTypeIndex;
+use gc_types::{FieldType, VMSharedTypeIndex};
 
 /// How many bytes the greatest number has: a multiple of each width.
 const BLOCK: usize = 16;
@@ -24,7 +25,52 @@ const BLOCK: usize = 16;
 /// How many bytes of equal elements are written at once: a multiple of a block's.
 const CHUNK: usize = 256;
 
-/// Writes each value into the slot of its index.
+/// Writes each value into the element of its index.
+#[inline(always)]
+fn write_each_element<H: GcHeap, D: Drop>(
+    owner: &mut HeapOwner<H, D>,
+    interned: &InternedValues,
+    gc_ref: &VMGcRef,
+    ty: VMSharedTypeIndex,
+    element: &FieldType,
+    values: &[RawValue],
+)
+    requires idle { owner.old.seen.idle ≡ true }
+    requires element { elem_at owner.old.seen.types.declarations ty ≡ Some element.now }
+    requires can { CanFill H.KIND owner.old.seen gc_ref.now ty (EachFits (ids_of interned.now) values.now) }
+    ensures { FillsNew H.KIND owner.old.seen owner.new.seen gc_ref.now ty
+        (EachFits (ids_of interned.now) values.now) (EachStands (ids_of interned.now) values.now) }
+{
+    for (index, value) in values.iter().enumerate() {
+        owner.is_ready();
+        let slot = element_slot(owner.types(), H::KIND, ty, index as u32, *element);
+        write_value(owner, interned, gc_ref, &slot, value);
+    }
+}
+
+/// Writes each value into the field of its index.
+#[inline(always)]
+fn write_each_field<H: GcHeap, D: Drop>(
+    owner: &mut HeapOwner<H, D>,
+    interned: &InternedValues,
+    gc_ref: &VMGcRef,
+    ty: VMSharedTypeIndex,
+    values: &[RawValue],
+)
+    requires idle { owner.old.seen.idle ≡ true }
+    requires no_array { elem_at owner.old.seen.types.declarations ty ≡ None }
+    requires can { CanFill H.KIND owner.old.seen gc_ref.now ty (EachFits (ids_of interned.now) values.now) }
+    ensures { FillsNew H.KIND owner.old.seen owner.new.seen gc_ref.now ty
+        (EachFits (ids_of interned.now) values.now) (EachStands (ids_of interned.now) values.now) }
+{
+    for (index, value) in values.iter().enumerate() {
+        owner.is_ready();
+        let slot = field_slot(owner.types(), H::KIND, ty, index as u32);
+        write_value(owner, interned, gc_ref, &slot, value);
+    }
+}
+
+/// Writes each value into the slot of its index. Whether these are elements is asked once.
 #[inline(always)]
 fn write_values<H: GcHeap, D: Drop>(
     owner: &mut HeapOwner<H, D>,
@@ -38,11 +84,9 @@ fn write_values<H: GcHeap, D: Drop>(
     ensures { FillsNew H.KIND owner.old.seen owner.new.seen gc_ref.now ty
         (EachFits (ids_of interned.now) values.now) (EachStands (ids_of interned.now) values.now) }
 {
-    for (index, value) in values.iter().enumerate() {
-        owner.is_ready();
-        let slot = slot_at(owner.types(), H::KIND, ty, index as u32);
-        let stored = stored_value(interned, owner.scoped(), owner.owned(), value);
-        write_slot(owner, gc_ref, &slot, stored);
+    match owner.types().array_elem(ty) {
+        Some(element) => write_each_element(owner, interned, gc_ref, ty, &element, values),
+        None => write_each_field(owner, interned, gc_ref, ty, values),
     }
 }
 

@@ -20,7 +20,7 @@ pub struct Slot {
 
 /// The slot of a field of a struct or an exception of a declared type.
 #[inline(always)]
-fn field_slot(types: &Types, layouts: Layouts, ty: VMSharedTypeIndex, index: u32) -> Slot
+pub(crate) fn field_slot(types: &Types, layouts: Layouts, ty: VMSharedTypeIndex, index: u32) -> Slot
     requires has { HasStorageSlot layouts types.now.declarations ty index }
     requires no_array { elem_at types.now.declarations ty ≡ None }
     ensures { FindsSlot layouts types.now.declarations ty index result }
@@ -33,7 +33,8 @@ fn field_slot(types: &Types, layouts: Layouts, ty: VMSharedTypeIndex, index: u32
 }
 
 /// The slot of an element of an array of a declared type.
-fn element_slot(
+#[inline(always)]
+pub(crate) fn element_slot(
     types: &Types,
     layouts: Layouts,
     ty: VMSharedTypeIndex,

@@ -9,7 +9,7 @@ ghost use Rattle.gc_values.specs.declared.stored.Stored.TheVariants as kept;
 ghost use Rattle.gc_values.specs.Kept.{kept_code, raw_form, KeptAs, CanBeKept, FitsForm, IsFound};
 ghost use Rattle.gc_values.specs.Words.{AreOwnedRising};
 ghost use Rattle.gc_values.specs.Interning.{ids_of};
-ghost use Rattle.gc_values.specs.HeldSlots.{storage_slot, CanWriteSlot, WritesAt, FindsAt, FitsAt};
+ghost use Rattle.gc_values.specs.HeldSlots.{storage_slot, CanWriteSlot, WritesAt, CanWriteKept, WritesKept, FindsAt, FitsAt};
 
 use crate::interned::InternedValues;
 use crate::root::RawValue;
@@ -129,6 +129,51 @@ pub fn write_slot<H: GcHeap, D: Drop>(
     match stored {
         Stored::Number(number) => write_low_bytes(owner, gc_ref, slot, number),
         Stored::Ref(word) => owner.write_reference(gc_ref, slot.offset, word),
+    }
+}
+
+/// Writes what is kept of a value to a slot of a held object.
+#[inline(always)]
+fn write_kept<H: GcHeap, D: Drop>(
+    owner: &mut HeapOwner<H, D>,
+    interned: &InternedValues,
+    gc_ref: &VMGcRef,
+    slot: &Slot,
+    value: &RawValue,
+)
+    requires idle { owner.old.seen.idle ≡ true }
+    requires can { CanWriteKept H.KIND (ids_of interned.now) owner.old.seen gc_ref.now (storage_slot slot.now) value.now }
+    ensures { WritesKept H.KIND (ids_of interned.now) owner.old.seen owner.new.seen gc_ref.now (storage_slot slot.now) value.now }
+{
+    let stored = stored_value(interned, owner.scoped(), owner.owned(), value);
+    write_slot(owner, gc_ref, slot, stored);
+}
+
+/// Writes a value to a slot of a held object. The most usual kinds have arms of their own, so that each is written with its
+/// kind known.
+#[inline(always)]
+pub(crate) fn write_value<H: GcHeap, D: Drop>(
+    owner: &mut HeapOwner<H, D>,
+    interned: &InternedValues,
+    gc_ref: &VMGcRef,
+    slot: &Slot,
+    value: &RawValue,
+)
+    requires idle { owner.old.seen.idle ≡ true }
+    requires can { CanWriteKept H.KIND (ids_of interned.now) owner.old.seen gc_ref.now (storage_slot slot.now) value.now }
+    ensures { WritesKept H.KIND (ids_of interned.now) owner.old.seen owner.new.seen gc_ref.now (storage_slot slot.now) value.now }
+{
+    match value {
+        RawValue::I32(number) => {
+            let stored = Stored::Number(u128::from(number.cast_unsigned()));
+            write_slot(owner, gc_ref, slot, stored);
+        }
+        RawValue::I64(number) => {
+            let stored = Stored::Number(u128::from(number.cast_unsigned()));
+            write_slot(owner, gc_ref, slot, stored);
+        }
+        RawValue::Ref(..) => write_kept(owner, interned, gc_ref, slot, value),
+        _ => write_kept(owner, interned, gc_ref, slot, value),
     }
 }
 

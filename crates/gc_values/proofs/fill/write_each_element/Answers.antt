@@ -1,0 +1,48 @@
+use Rattle.std.proofs.Common.{length, refl, ap, ◌∙◌, arith}
+use Rattle.std.proofs.lemmas.Option.{slice_get_read}
+use Rattle.gc_types.specs.Declarations.{TypeTable, elem_at}
+use Rattle.gc_values.specs.Interning.{ids_of}
+use Rattle.gc_values.specs.HeldSlots.{FindsSlot}
+use Rattle.gc_values.proofs.ValueSteps.{IsNext, begun, ended, next_small, same_types, next_has, next_found, next_goes, next_written}
+use Rattle.gc_values.proofs.fill.write_each_element.Given.{Over}
+use Rattle.gc_values.proofs.fill.write_each_element.Goals.{After-is_ready, After-element_slot-slot}
+use Rattle.gc_values.proofs.fill.write_each_element.Goals as goal
+
+pub loop-index-init : goal.loop-index-init
+loop-index-init g c = begun g.H.GcHeap.KIND (ids_of c.args.interned.now) c.args.values.now c.args.owner.now.seen c.args.gc_ref.now c.args.ty c.requires.idle
+
+next : (g : Over) (c : After-is_ready g) → IsNext g.H.GcHeap.KIND (ids_of c.args.interned.now) c.args.values.now c.args.owner.now.seen c.loop-index.owner.seen c.args.gc_ref.now c.args.ty c.loop-index.index c.index-values-index.result
+next g c = record {
+  begins = c.requires.can;
+  before = c.loop-index.invariant;
+  value_is = slice_get_read c.args.values.now (length c.args.values.now) c.loop-index.index c.index-values-index.result refl c.loop-index-test.true c.index-values-index.is;
+  heap = c.is_ready.ensures.heap;
+  can = c.is_ready.ensures.can;
+}
+
+pub overflow_cast-index : goal.overflow_cast-index
+overflow_cast-index g c = let small = next_small (next g (goal.at.overflow_cast-index g c).After-is_ready) in omega (arith, small)
+
+pub element_slot-slot-requires-clause-has : goal.element_slot-slot-requires-clause-has
+element_slot-slot-requires-clause-has g c = next_has (next g (goal.at.element_slot-slot-requires-clause-has g c).After-is_ready) c.KIND.result c.types.result.now c.KIND.ensures c.types.ensures
+
+pub element_slot-slot-requires-clause-element : goal.element_slot-slot-requires-clause-element
+element_slot-slot-requires-clause-element g c =
+    ap (λ (ts : TypeTable). elem_at ts.declarations c.args.ty) (c.types.ensures ∙ same_types (next g (goal.at.element_slot-slot-requires-clause-element g c).After-is_ready)) ∙ c.requires.element
+
+-- the slot of the index
+finds : (g : Over) (c : After-element_slot-slot g) → FindsSlot g.H.GcHeap.KIND c.loop-index.owner.seen.types.declarations c.args.ty c.loop-index.index c.element_slot-slot.result
+finds g c = next_found (next g (goal.at.After-element_slot-slot g c).After-is_ready) c.KIND.result c.types.result.now c.KIND.ensures c.types.ensures c.element_slot-slot.result c.element_slot-slot.ensures
+
+pub write_value-requires-clause-can : goal.write_value-requires-clause-can
+write_value-requires-clause-can g c =
+    let at = goal.at.write_value-requires-clause-can g c in
+    next_goes (next g at.After-is_ready) c.element_slot-slot.result (finds g at.After-element_slot-slot)
+
+pub loop-index-preserved : goal.loop-index-preserved
+loop-index-preserved g c =
+    let at = goal.at.loop-index-preserved g c in
+    next_written (next g at.After-is_ready) c.element_slot-slot.result (finds g at.After-element_slot-slot) c.write_value.new.owner.seen c.write_value.ensures
+
+pub returns : goal.returns
+returns g c = ended c.loop-index.invariant (omega (arith, c.loop-index-test.false, c.loop-index.auto.index-end))
