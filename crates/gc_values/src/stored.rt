@@ -149,8 +149,8 @@ fn write_kept<H: GcHeap, D: Drop>(
     write_slot(owner, gc_ref, slot, stored);
 }
 
-/// Writes a value to a slot of a held object. The most usual kinds have arms of their own, so that each is written with its
-/// kind known.
+/// Writes a value to a slot of a held object.
+// The integers have arms of their own, in which the width of what is written is known.
 #[inline(always)]
 pub(crate) fn write_value<H: GcHeap, D: Drop>(
     owner: &mut HeapOwner<H, D>,
@@ -172,7 +172,6 @@ pub(crate) fn write_value<H: GcHeap, D: Drop>(
             let stored = Stored::Number(u128::from(number.cast_unsigned()));
             write_slot(owner, gc_ref, slot, stored);
         }
-        RawValue::Ref(..) => write_kept(owner, interned, gc_ref, slot, value),
         _ => write_kept(owner, interned, gc_ref, slot, value),
     }
 }
