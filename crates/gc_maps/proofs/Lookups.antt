@@ -18,7 +18,7 @@ use Rattle.gc_maps.specs.declared.part.Node.{Node}
 use Rattle.gc_maps.specs.Trees.{Tree, leaf, node, height, pairs}
 use Rattle.gc_maps.specs.Maps.{IsTree}
 use Rattle.gc_maps.specs.Parts.{RootIs, NodeIs, NodeIn}
-use Rattle.gc_maps.specs.Searching.{IsSearch, toward}
+use Rattle.gc_maps.specs.Searching.{IsSearch, toward, one_further, nodes_toward}
 use Rattle.gc_maps.specs.Ends.{Pushes, EndsReading}
 use Rattle.gc_maps.proofs.Naming.{held_table}
 use Rattle.gc_maps.proofs.Entries.{around, AllBelow, below_further, above_further, find_past, find_front, lesser}
@@ -34,6 +34,7 @@ pub record Looks {D : Type 0} (layouts : Layouts) (t : Table D) (ty : ℕ) (tree
   pub found : find int_cmp key (pairs tree) ≡ find int_cmp key (pairs part)
   pub low : height part + read ≤ height tree
   pub counted : now ≡ before + read
+  pub way : nodes_toward key tree ≡ read + nodes_toward key part
 
 pub pushes_within : {D : Type 0} (m n : ℕ) (t u : Table D) → m ≤ n → Pushes m t u → Pushes n t u
 pushes_within m n t u below pushes = let few = pushes.few in record { scoped = pushes.scoped; few = omega (arith, few, below); pushes = pushes.pushes; rest = pushes.rest }
@@ -83,6 +84,11 @@ found_here q x k v y search e =
     let same : k ≡ q = sym (int_ranked q k Equal (sym e)) in
     find_past q (pairs x) ((k, v) ∷ pairs y) (subst (AllBelow (pairs x)) same parts.below) ∙ (rw e refl)
 
+equal_order : (p : Ordering) → is_eq p ≡ true → p ≡ Equal
+equal_order Less e = absurd (cc)
+equal_order Equal e = refl
+equal_order Greater e = absurd (cc)
+
 module _ {D : Type 0} (layouts : Layouts) (t : Table D) (ty : ℕ) (tree : Tree) (key : ℤ) (before : ℕ) where
   abbrev pub Finds : StoreView D → Table D → Option ℤ → Type 0
   Finds s u found = found ≡ find int_cmp key (pairs tree)
@@ -95,6 +101,7 @@ module _ {D : Type 0} (layouts : Layouts) (t : Table D) (ty : ℕ) (tree : Tree)
     found = refl;
     low = omega arith;
     counted = omega arith;
+    way = omega arith;
   }
 
   module _ (i now : ℕ) (s : StoreView D) where
@@ -114,6 +121,16 @@ module _ {D : Type 0} (layouts : Layouts) (t : Table D) (ty : ℕ) (tree : Tree)
 
     pub looks_count : (here : Option GcRootIndex) → Looks layouts t ty tree key i before now s here → now ≤ before + height tree
     looks_count here looks = let low = looks.low in let counted = looks.counted in omega (arith, low, counted)
+
+    none_left : (part : Tree) (u : Table D) → RootIs s u ty None part → nodes_toward key part ≡ 0
+    none_left leaf u is = refl
+    none_left (node x k v y) u is = let named = is.is.is_node.named in let none = is.names in absurd (cc (named, none))
+
+    -- where nothing is left each node on the way was counted
+    pub looks_all : Looks layouts t ty tree key i before now s None → now ≡ before + nodes_toward key tree
+    looks_all looks =
+        let none = none_left looks.part looks.leaves.after looks.leaves.changed.1 in
+        omega (arith, looks.counted, looks.way, none)
 
     -- beyond the greatest height nothing is left
     pub looks_past : (here : Option GcRootIndex) (root : Option GcRootIndex) (s0 : StoreView D) → RootIs s0 t ty root tree → IsSearch tree → 92 ≤ i → Looks layouts t ty tree key i before now s here → ⊥
@@ -165,48 +182,62 @@ module _ {D : Type 0} (layouts : Layouts) (t : Table D) (ty : ℕ) (tree : Tree)
                 changed = (
                   pushes_then (2 * i) 2 t u ends.after pushes ends.changed.0,
                   ap (λ (z : ℤ). Some (to_z w64 (of_z w64 z))) at.value_is ∙ ap Some (to_z-of_z w64 v at.value_fits)
-                      ∙ sym (found ∙ found_here key x k v y search (ap (int_cmp key) (sym at.key_is) ∙ sym is ∙ equals o equal)),
+                      ∙ sym (found ∙ found_here key x k v y search (ap (int_cmp key) (sym at.key_is) ∙ sym is ∙ equal_order o equal)),
                 );
               }
-            where
-              equals : (p : Ordering) → is_eq p ≡ true → p ≡ Equal
-              equals Less e = absurd (cc)
-              equals Equal e = refl
-              equals Greater e = absurd (cc)
 
           pub looks_here : is_eq o ≡ true → i < 92 → Looks layouts t ty tree key i before now s (Some h) → EndsReading layouts 184 t Finds (Ok (Some (to_z w64 (of_z w64 read.value)))) s1
           looks_here equal below looks =
               let ends = here_at equal looks.part looks.leaves.after looks.leaves.account looks.leaves.holds looks.leaves.changed.1 looks.leaves.changed.0 looks.search looks.found in
               record { after = ends.after; account = ends.account; holds = ends.holds; changed = (pushes_within (2 * i + 2) 184 t ends.after (omega (arith, below)) ends.changed.0, ends.changed.1) }
 
-          next_of : (p : Ordering) → p ≡ int_cmp key read.key → is_eq p ≡ false → (part : Tree) (u : Table D) (b : Account) → HoldsAccount layouts s u b → RootIs s u ty (Some h) part → Pushes (2 * i) t u
-              → IsSearch part → Found part → height part + i ≤ height tree → now ≡ before + i → Looks layouts t ty tree key (i + 1) before (now + 1) s1 (toward read p)
-          next_of p e other leaf u b holds root pushes search found low counted = absurd (not_null layouts s u (held_table layouts s u b holds) h root.reference root.names root.is)
-          next_of Less e other (node x k v y) u b holds root pushes search found low counted =
+          last_at : is_eq o ≡ true → (part : Tree) (u : Table D) (b : Account) → HoldsAccount layouts s u b → RootIs s u ty (Some h) part → nodes_toward key part ≡ 1
+          last_at equal leaf u b holds root = absurd (not_null layouts s u (held_table layouts s u b holds) h root.reference root.names root.is)
+          last_at equal (node x k v y) u b holds root =
               let ends = reads u b ty x k v y holds root in
+              ap (λ (p : Ordering). one_further p (nodes_toward key x) (nodes_toward key y)) (ap (int_cmp key) (sym ends.changed.1.key_is) ∙ sym is ∙ equal_order o equal)
+
+          -- at its own node each node on the way was counted
+          pub looks_last : is_eq o ≡ true → Looks layouts t ty tree key i before now s (Some h) → now + 1 ≡ before + nodes_toward key tree
+          looks_last equal looks =
+              let one = last_at equal looks.part looks.leaves.after looks.leaves.account looks.leaves.holds looks.leaves.changed.1 in
+              omega (arith, looks.counted, looks.way, one)
+
+          next_of : (p : Ordering) → p ≡ int_cmp key read.key → is_eq p ≡ false → (part : Tree) (u : Table D) (b : Account) → HoldsAccount layouts s u b → RootIs s u ty (Some h) part → Pushes (2 * i) t u
+              → IsSearch part → Found part → height part + i ≤ height tree → now ≡ before + i → nodes_toward key tree ≡ i + nodes_toward key part
+              → Looks layouts t ty tree key (i + 1) before (now + 1) s1 (toward read p)
+          next_of p e other leaf u b holds root pushes search found low counted way = absurd (not_null layouts s u (held_table layouts s u b holds) h root.reference root.names root.is)
+          next_of Less e other (node x k v y) u b holds root pushes search found low counted way =
+              let ends = reads u b ty x k v y holds root in
+              let order : int_cmp key k ≡ Less = ap (int_cmp key) (sym ends.changed.1.key_is) ∙ sym e in
+              let here = ap (λ (p : Ordering). one_further p (nodes_toward key x) (nodes_toward key y)) order in
               record {
                 part = x;
                 leaves = record { after = ends.after; account = ends.account; holds = ends.holds; changed = (pushes_within (2 * i + 2) (2 * (i + 1)) t ends.after (omega arith) (pushes_then (2 * i) 2 t u ends.after pushes ends.changed.0), ends.changed.1.left) };
                 search = left_search x k v y search;
-                found = found ∙ found_left key x k v y search (ap (int_cmp key) (sym ends.changed.1.key_is) ∙ sym e);
+                found = found ∙ found_left key x k v y search order;
                 low = omega (arith, low);
                 counted = omega (arith, counted);
+                way = omega (arith, way, here);
               }
-          next_of Equal e other (node x k v y) u b holds root pushes search found low counted = absurd (cc)
-          next_of Greater e other (node x k v y) u b holds root pushes search found low counted =
+          next_of Equal e other (node x k v y) u b holds root pushes search found low counted way = absurd (cc)
+          next_of Greater e other (node x k v y) u b holds root pushes search found low counted way =
               let ends = reads u b ty x k v y holds root in
+              let order : int_cmp key k ≡ Greater = ap (int_cmp key) (sym ends.changed.1.key_is) ∙ sym e in
+              let here = ap (λ (p : Ordering). one_further p (nodes_toward key x) (nodes_toward key y)) order in
               record {
                 part = y;
                 leaves = record { after = ends.after; account = ends.account; holds = ends.holds; changed = (pushes_within (2 * i + 2) (2 * (i + 1)) t ends.after (omega arith) (pushes_then (2 * i) 2 t u ends.after pushes ends.changed.0), ends.changed.1.right) };
                 search = right_search x k v y search;
-                found = found ∙ found_right key x k v y search (ap (int_cmp key) (sym ends.changed.1.key_is) ∙ sym e);
+                found = found ∙ found_right key x k v y search order;
                 low = omega (arith, low);
                 counted = omega (arith, counted);
+                way = omega (arith, way, here);
               }
 
           pub looks_next : is_eq o ≡ false → Looks layouts t ty tree key i before now s (Some h) → Looks layouts t ty tree key (i + 1) before (now + 1) s1 (toward read o)
           looks_next other looks =
-              next_of o is other looks.part looks.leaves.after looks.leaves.account looks.leaves.holds looks.leaves.changed.1 looks.leaves.changed.0 looks.search looks.found looks.low looks.counted
+              next_of o is other looks.part looks.leaves.after looks.leaves.account looks.leaves.holds looks.leaves.changed.1 looks.leaves.changed.0 looks.search looks.found looks.low looks.counted looks.way
 
 -- a key is passed as it is
 module _ {D : Type 0} (layouts : Layouts) (t : Table D) (ty : ℕ) (tree : Tree) (key : ℤ) (fits : SFits w64 key) (i before now : ℕ) (s : StoreView D) (here : Option GcRootIndex) where

@@ -1,5 +1,5 @@
 -- Search trees, and how far a look for a key has come.
-use Rattle.std.specs.Prelude.{ℕ, T, Option}
+use Rattle.std.specs.Prelude.{ℕ, ℤ, ◌+◌, T, Option}
 use Rattle.std.specs.Ordering.{int_cmp}
 use Rattle.std.specs.declared.cmp.Ordering.{Ordering}
 use Rattle.std.specs.declared.cmp.Ordering.TheVariants.{Less, Equal, Greater}
@@ -10,7 +10,7 @@ use Rattle.gc_model.specs.Stores.{StoreView}
 use Rattle.gc_model.specs.Holds.{HoldsTable}
 use Rattle.gc_values.specs.declared.root.GcRootIndex.{GcRootIndex}
 use Rattle.gc_maps.specs.declared.part.Node.{Node}
-use Rattle.gc_maps.specs.Trees.{Tree, pairs, IsBalanced}
+use Rattle.gc_maps.specs.Trees.{Tree, leaf, node, pairs, IsBalanced}
 use Rattle.gc_maps.specs.Parts.{RootIs}
 
 -- balanced, and the keys rise from left to right
@@ -32,3 +32,14 @@ abbrev pub toward : Node → Ordering → Option GcRootIndex
 toward read Less = read.left
 toward read Equal = read.right
 toward read Greater = read.right
+
+-- one node more than on the way on, which the key's order to that of the node tells; at its own node the way ends
+abbrev pub one_further : Ordering → ℕ → ℕ → ℕ
+one_further Less left right = left + 1
+one_further Equal left right = 1
+one_further Greater left right = right + 1
+
+-- the nodes on the way to a key: each of them once, and that of the key where there is one
+abbrev pub nodes_toward : ℤ → Tree → ℕ
+nodes_toward key leaf = 0
+nodes_toward key (node l k v r) = one_further (int_cmp key k) (nodes_toward key l) (nodes_toward key r)

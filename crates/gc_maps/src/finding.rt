@@ -1,6 +1,6 @@
 //! Looking for a key.
 
-ghost use Rattle.std.specs.Prelude.{◌≡◌, ◌+◌, ◌≤◌, ℕ};
+ghost use Rattle.std.specs.Prelude.{◌≡◌, ◌+◌, ◌≤◌, ℕ, OnOk};
 ghost use Rattle.std.specs.Ordering.{int_cmp};
 ghost use Rattle.std.specs.FinMap.Entries.{find};
 ghost use Rattle.gc_model.specs.Table.{Table};
@@ -8,7 +8,7 @@ ghost use Rattle.gc_policy.specs.Accounts.{Account, HoldsAccount};
 ghost use Rattle.gc_store.specs.Stores.{IsSameStore};
 ghost use Rattle.gc_maps.specs.Ends.{EndsReading};
 ghost use Rattle.gc_maps.specs.Parts.{RootIs};
-ghost use Rattle.gc_maps.specs.Searching.{IsSearch, SearchIn, toward};
+ghost use Rattle.gc_maps.specs.Searching.{IsSearch, SearchIn, nodes_toward, toward};
 ghost use Rattle.gc_maps.specs.Trees.{Tree, height, pairs};
 
 use crate::part::Node;
@@ -46,6 +46,8 @@ pub(crate) fn look_up<H: GcHeap, D: Drop, G: Ledger>(
         → EndsReading H.KIND 184 t (λ s u found. found ≡ find int_cmp key (pairs tree)) result store.new }
     ensures counted { (t : Table D) (a : Account) (ty : ℕ) (tree : Tree) → HoldsAccount H.KIND store.old t a → RootIs store.old t ty root tree → IsSearch tree
         → steps.new ≤ steps.old + height tree }
+    ensures exact { OnOk result ((t : Table D) (a : Account) (ty : ℕ) (tree : Tree) → HoldsAccount H.KIND store.old t a → RootIs store.old t ty root tree
+        → IsSearch tree → steps.new ≡ steps.old + nodes_toward key tree) }
     ensures same { IsSameStore store.old store.new }
 {
     let mut here = root;

@@ -1,7 +1,7 @@
 //! Maps.
 
 ghost use Rattle.std.specs.Prelude.{◌≡◌, ◌&&◌, ◌+◌, ◌-◌, ◌*◌, ◌^◌, ◌≤◌, ◌<◌, ℕ, true, false, length};
-ghost use Rattle.std.specs.Prelude.{Option, None, Err, OnErr, MatchResult, IsErrOf};
+ghost use Rattle.std.specs.Prelude.{Option, None, Err, OnErr, OnOk, MatchResult, IsErrOf};
 ghost use Rattle.std.specs.FinMap as finite;
 ghost use Rattle.gc_model.specs.Allocation.{Limits};
 ghost use Rattle.gc_model.specs.Table.{Table};
@@ -18,6 +18,7 @@ ghost use Rattle.gc_maps.specs.Copies.{CopiedEntries, FailsToCopyEntries};
 ghost use Rattle.gc_maps.specs.Ends.{EndsMakingNodes};
 ghost use Rattle.gc_maps.specs.Maps.{IntMap, MapOfStands, MapStands, StandsForMap, StandsForMapOf};
 ghost use Rattle.gc_maps.specs.Paths.{IsBuilt};
+ghost use Rattle.gc_maps.specs.Searching.{nodes_toward};
 
 use crate::copying::copy_part;
 use crate::finding::{MOST_HEIGHT, look_up};
@@ -64,6 +65,8 @@ impl HeapMap {
             → StandsForMap store.old t self.now.root m → Gets H.KIND m key t result store.new }
         ensures few_steps { (t : Table D) (a : Account) (m : IntMap) → HoldsAccount H.KIND store.old t a → StandsForMap store.old t self.now.root m
             → 2 ^ (steps.new - steps.old) ≤ (finite.len m + 1) * (finite.len m + 1) }
+        ensures each_step { OnOk result ((t : Table D) (a : Account) (ty : ℕ) (m : IntMap) → HoldsAccount H.KIND store.old t a
+            → (stands : StandsForMapOf store.old t self.now.root ty m) → steps.new ≡ steps.old + nodes_toward key stands.is.tree) }
         ensures no_step { is_version_of store.old self.now.root ≡ false → steps.new ≡ steps.old }
         ensures same { IsSameStore store.old store.new }
     {

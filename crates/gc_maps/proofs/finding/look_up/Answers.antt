@@ -7,7 +7,7 @@ use Rattle.gc_policy.proofs.AccountLemmas.{some_account}
 use Rattle.gc_values.specs.declared.root.GcRootIndex.{GcRootIndex}
 use Rattle.gc_maps.specs.Parts.{RootIs}
 use Rattle.gc_maps.specs.Searching.{IsSearch}
-use Rattle.gc_maps.proofs.Lookups.{Looks, looks_start, looks_none, looks_count, looks_counted, looks_past, looks_node, looks_refused, looks_here, looks_next, with_key, as_passed}
+use Rattle.gc_maps.proofs.Lookups.{Looks, looks_start, looks_none, looks_count, looks_counted, looks_all, looks_last, looks_past, looks_node, looks_refused, looks_here, looks_next, with_key, as_passed}
 use Rattle.gc_maps.specs.Trees.{Tree}
 use Rattle.gc_maps.proofs.Growing.{same_then}
 use Rattle.gc_maps.proofs.finding.look_up.Given as given
@@ -103,3 +103,20 @@ returns-clause-finds g c t a ty tree holds is search =
 pub returns-clause-counted : goal.returns-clause-counted
 returns-clause-counted g c t a ty tree holds is search =
     looks_count g.H.GcHeap.KIND t ty tree c.args.key c.args.steps.now c.loop-turn._turn c.loop-turn.steps c.loop-turn.store c.loop-turn.here (so_far g c t a ty tree holds is search)
+
+pub returns-in-None-clause-exact : goal.returns-in-None-clause-exact
+returns-in-None-clause-exact g c t a ty tree holds is search =
+    looks_all g.H.GcHeap.KIND t ty tree c.args.key c.args.steps.now c.loop-turn._turn c.loop-turn.steps c.loop-turn.store
+    (subst (λ (h : Option GcRootIndex). Looks g.H.GcHeap.KIND t ty tree c.args.key c.loop-turn._turn c.args.steps.now c.loop-turn.steps c.loop-turn.store h) c.in-None.is (with_key g.H.GcHeap.KIND t ty tree c.args.key c.ranges.key c.loop-turn._turn c.args.steps.now c.loop-turn.steps c.loop-turn.store c.loop-turn.here (c.loop-turn.invariant.looks t a ty tree holds is search)))
+
+pub returns-then-is_eq-clause-exact : goal.returns-then-is_eq-clause-exact
+returns-then-is_eq-clause-exact g c t a ty tree holds is search =
+    let before = (goal.at.returns-then-is_eq-clause-exact g c).In-Some in
+    let last = looks_last g.H.GcHeap.KIND t ty tree c.args.key c.args.steps.now c.loop-turn._turn c.loop-turn.steps c.loop-turn.store c.in-Some.handle c.read_node.new.store c.in-Ok.node c.in-Ok.ensures.reads
+    c.cmp-order.result (c.cmp-order.ensures ∙ ap (λ (z : ℤ). int_cmp z c.in-Ok.node.key) (to_z-of_z w64 c.args.key c.ranges.key)) (sym c.is_eq.ensures ∙ c.if-is_eq.true) (at_some g before t a ty tree holds is search) in
+    c.tick.ensures ∙ last
+
+pub returns-clause-exact : goal.returns-clause-exact
+returns-clause-exact g c t a ty tree holds is search =
+    absurd (looks_past g.H.GcHeap.KIND t ty tree c.args.key c.args.steps.now c.loop-turn._turn c.loop-turn.steps c.loop-turn.store c.loop-turn.here c.args.root c.args.store.now is search (omega arith)
+    (so_far g c t a ty tree holds is search))

@@ -1,8 +1,10 @@
-use Rattle.std.proofs.Common.{◌≡◌, ℕ, ◌∙◌, sym, subst, ℤ, Option, w64, arith}
+use Rattle.std.proofs.Common.{◌≡◌, ℕ, ◌+◌, ◌∙◌, sym, subst, ℤ, Option, Result, Ok, Err, w64, arith}
+use Rattle.std.specs.Prelude.{OnOk}
 use Rattle.std.specs.Ordering.{int_cmp}
 use Rattle.std.specs.FinMap.Entries.{find}
 use Rattle.std.proofs.lemmas.Int.{to_z-of_z}
 use Rattle.gc_maps.specs.Ends.{EndsReading}
+use Rattle.gc_maps.specs.Searching.{nodes_toward}
 use Rattle.gc_maps.specs.Trees.{pairs}
 use Rattle.gc_model.specs.Table.{leave}
 use Rattle.gc_policy.specs.Accounts.{HoldsAccount}
@@ -39,3 +41,16 @@ returns-clause-few_steps g c t a m holds stands =
     let root = c.args.self.now.root in
     map_steps s t root stands.0 m map c.args.steps.now c.look_up-found.new.steps
     (c.look_up-found.ensures.counted t a stands.0 map.is.tree holds (map_root s t root stands.0 m map) (map_search s t root stands.0 m map))
+
+on_ok_then : {A E : Type 0} (r : Result A E) (P Q : Type 0) → OnOk r P → (P → Q) → OnOk r Q
+on_ok_then (Ok x) P Q p f = f p
+on_ok_then (Err e) P Q p f = p
+
+pub returns-clause-each_step : goal.returns-clause-each_step
+returns-clause-each_step g c =
+    let s = c.args.store.now in
+    let root = c.args.self.now.root in
+    on_ok_then c.look_up-found.result _ _ c.look_up-found.ensures.exact
+    (λ exact t a ty m holds stands.
+    subst (λ (z : ℤ). c.look_up-found.new.steps ≡ c.args.steps.now + nodes_toward z stands.is.tree) (to_z-of_z w64 c.args.key c.ranges.key)
+    (exact t a ty stands.is.tree holds (map_root s t root ty m stands) (map_search s t root ty m stands)))
