@@ -183,11 +183,31 @@ module _ (layouts : Layouts) (s new : StoreView ℕ) (kit : Kit) (v : Option GcR
   as_it_was : new ≡ s → Shelf layouts new kit (v ∷ vs)
   as_it_was is = subst (λ (x : StoreView ℕ). Shelf layouts x kit (v ∷ vs)) (sym is) shelf
 
-  refused_store : (result : Result HeapMap ListFault) → (result ≡ Err fault.WrongStore) × (new ≡ s) → Made result
-  refused_store result wrong = subst Made (sym wrong.0) (as_it_was wrong.1)
-
   abbrev first_stands : (m : IntMap) × StandsForMapOf s shelf.table v kit.node m
   first_stands = shelf.stands zero v refl
+
+  first_account : (a : Account) × HoldsAccount layouts s shelf.table a
+  first_account = some_account layouts s shelf.table shelf.holds
+
+  -- what a call on a kit and a map that may be another store's answers
+  abbrev Refuses : Result HeapMap ListFault → Type 0
+  Refuses result = (is_kit_of s kit && is_version_of s v) ≡ false → (result ≡ Err fault.WrongStore) × (new ≡ s)
+
+  abbrev Changes : (IntMap → IntMap) → Limits → Limits → Option ℕ → Result HeapMap ListFault → Type 0
+  Changes change limits limits' counter result = is_kit_of s kit ≡ true → is_version_of s v ≡ true → (t : Table ℕ) (a : Account) (m : IntMap) → HoldsAccount layouts s t a → StandsForMapOf s t v kit.node m
+      → AnswersMap layouts counter kit (change m) t limits limits' result new
+
+  either_way : (change : IntMap → IntMap) (limits limits' : Limits) (counter : Option ℕ) (result : Result HeapMap ListFault) → Refuses result → Changes change limits limits' counter result
+      → (P : Result HeapMap ListFault → Type 0) → (AnswersMap layouts counter kit (change first_stands.0) shelf.table limits limits' result new → P result) → (new ≡ s → P (Err fault.WrongStore)) → P result
+  either_way change limits limits' counter result wrong changes P answered refused = by (is_kit_of s kit) (is_version_of s v) refl refl
+    where
+      refused_so : (result ≡ Err fault.WrongStore) × (new ≡ s) → P result
+      refused_so is = subst P (sym is.0) (refused is.1)
+
+      by : (k w : Bool) → is_kit_of s kit ≡ k → is_version_of s v ≡ w → P result
+      by true true kit_own own = answered (changes kit_own own shelf.table first_account.0 first_stands.0 first_account.1 first_stands.1)
+      by true false kit_own own = refused_so (wrong (false_behind (is_kit_of s kit) (is_version_of s v) own))
+      by false w kit_own own = refused_so (wrong (and_false (is_kit_of s kit) (is_version_of s v) kit_own))
 
   -- a call that answers a map whose entries are changed so
   module _ (change : IntMap → IntMap) (limits limits' : Limits) where
@@ -198,18 +218,20 @@ module _ (layouts : Layouts) (s new : StoreView ℕ) (kit : Kit) (v : Option GcR
     changed_in counter (Err (fault.HeapOutOfMemory f)) answers = shelf_refused layouts s new kit (v ∷ vs) shelf same answers.1
     changed_in counter (Err fault.Memory) answers = shelf_refused layouts s new kit (v ∷ vs) shelf same answers
 
-    pub change_stays : (counter : Option ℕ) (result : Result HeapMap ListFault) → ((is_kit_of s kit && is_version_of s v) ≡ false → (result ≡ Err fault.WrongStore) × (new ≡ s))
-        → (is_kit_of s kit ≡ true → is_version_of s v ≡ true → (t : Table ℕ) (a : Account) (m : IntMap) → HoldsAccount layouts s t a → StandsForMapOf s t v kit.node m
-        → AnswersMap layouts counter kit (change m) t limits limits' result new) → Made result
-    change_stays counter result wrong changes = by (is_kit_of s kit) (is_version_of s v) refl refl
-      where
-        account : (a : Account) × HoldsAccount layouts s shelf.table a
-        account = some_account layouts s shelf.table shelf.holds
+    pub change_stays : (counter : Option ℕ) (result : Result HeapMap ListFault) → Refuses result → Changes change limits limits' counter result → Made result
+    change_stays counter result wrong changes = either_way change limits limits' counter result wrong changes Made (changed_in counter result) as_it_was
 
-        by : (k w : Bool) → is_kit_of s kit ≡ k → is_version_of s v ≡ w → Made result
-        by true true kit_own own = changed_in counter result (changes kit_own own shelf.table account.0 first_stands.0 account.1 first_stands.1)
-        by true false kit_own own = refused_store result (wrong (false_behind (is_kit_of s kit) (is_version_of s v) own))
-        by false w kit_own own = refused_store result (wrong (and_false (is_kit_of s kit) (is_version_of s v) kit_own))
+    -- a map that is answered has an owned root that was made now, if any
+    abbrev Apart : Result HeapMap ListFault → Type 0
+    Apart result = IfOk result (λ (made : HeapMap). AreApart v made.root)
+
+    apart_in : (counter : Option ℕ) (result : Result HeapMap ListFault) → AnswersMap layouts counter kit (change first_stands.0) shelf.table limits limits' result new → Apart result
+    apart_in counter (Ok made) answers =
+        new_apart layouts s shelf.table first_account.0 first_account.1 new same v made.root first_stands.1.reference first_stands.1.names answers.has_new_root
+    apart_in counter (Err why) answers = tt
+
+    pub change_apart : (counter : Option ℕ) (result : Result HeapMap ListFault) → Refuses result → Changes change limits limits' counter result → Apart result
+    change_apart counter result wrong changes = either_way change limits limits' counter result wrong changes Apart (apart_in counter result) (λ left. tt)
 
   -- a map that is answered for a key isn't empty, so it has an owned root of the store
   module _ (key value : ℤ) (limits limits' : Limits) where
@@ -228,18 +250,8 @@ module _ (layouts : Layouts) (s new : StoreView ℕ) (kit : Kit) (v : Option GcR
     owned_by counter (Ok made) answers = rooted made.root answers.after answers.stands.reference first_stands.0 answers.stands.names answers.stands.is
     owned_by counter (Err why) answers = tt
 
-    pub put_owns : (counter : Option ℕ) (result : Result HeapMap ListFault) → ((is_kit_of s kit && is_version_of s v) ≡ false → (result ≡ Err fault.WrongStore) × (new ≡ s))
-        → (is_kit_of s kit ≡ true → is_version_of s v ≡ true → (t : Table ℕ) (a : Account) (m : IntMap) → HoldsAccount layouts s t a → StandsForMapOf s t v kit.node m
-        → AnswersMap layouts counter kit (finite.insert m key value) t limits limits' result new) → Owns result
-    put_owns counter result wrong inserts = by (is_kit_of s kit) (is_version_of s v) refl refl
-      where
-        account : (a : Account) × HoldsAccount layouts s shelf.table a
-        account = some_account layouts s shelf.table shelf.holds
-
-        by : (k w : Bool) → is_kit_of s kit ≡ k → is_version_of s v ≡ w → Owns result
-        by true true kit_own own = owned_by counter result (inserts kit_own own shelf.table account.0 first_stands.0 account.1 first_stands.1)
-        by true false kit_own own = subst Owns (sym (wrong (false_behind (is_kit_of s kit) (is_version_of s v) own)).0) tt
-        by false w kit_own own = subst Owns (sym (wrong (and_false (is_kit_of s kit) (is_version_of s v) kit_own)).0) tt
+    pub put_owns : (counter : Option ℕ) (result : Result HeapMap ListFault) → Refuses result → Changes (λ (m : IntMap). finite.insert m key value) limits limits' counter result → Owns result
+    put_owns counter result wrong inserts = either_way (λ (m : IntMap). finite.insert m key value) limits limits' counter result wrong inserts Owns (owned_by counter result) (λ left. tt)
 
   module _ (key : ℤ) where
     got : (result : Result (Option ℤ) ListFault) → Gets layouts first_stands.0 key shelf.table result new → Shelf layouts new kit (v ∷ vs)
@@ -286,70 +298,30 @@ pub made_alone : (layouts : Layouts) (new : StoreView ℕ) (kit : Kit) (v : Opti
 made_alone layouts new kit v (Ok made) shelf = alone_on layouts new kit made.root (v ∷ []) shelf
 made_alone layouts new kit v (Err why) shelf = tt
 
--- a map was made and given up again, and the one that it was made of stands
-module _ (layouts : Layouts) (s mid new : StoreView ℕ) (kit : Kit) (v : Option GcRootIndex) (shelf : Shelf layouts s kit (v ∷ [])) (same : IsSameStore s mid) (after : IsSameStore mid new) (made : HeapMap) where
-  abbrev the_entries : IntMap
-  the_entries = (shelf.stands zero v refl).0
+-- a map was given up, and one with another root stands
+module _ (layouts : Layouts) (s new : StoreView ℕ) (kit : Kit) (gone v : Option GcRootIndex) (apart : AreApart gone v) (same : IsSameStore s new) (shelf : Shelf layouts s kit (v ∷ [])) where
+  abbrev the_version : (m : IntMap) × StandsForMapOf s shelf.table v kit.node m
+  the_version = shelf.stands zero v refl
 
-  abbrev the_version : StandsForMapOf s shelf.table v kit.node the_entries
-  the_version = (shelf.stands zero v refl).1
+  shelf_left : (a : Account) → LeavesVersion layouts shelf.table a v the_version.1.reference new → Shelf layouts new kit (v ∷ [])
+  shelf_left a left = record { table = record shelf.table { owned = left.owned }; holds = (left.holds.place, left.holds.holds); kit_is = shelf.kit_is; stands = one }
+    where
+      one : (i : ℕ) (w : Option GcRootIndex) → slice_get (v ∷ []) i ≡ Some w → (m : IntMap) × StandsForMapOf new (record shelf.table { owned = left.owned }) w kit.node m
+      one zero w e = (
+        the_version.0,
+        subst (λ (x : Option GcRootIndex). StandsForMapOf new (record shelf.table { owned = left.owned }) x kit.node the_version.0) (grind (arith, e))
+            (record { reference = the_version.1.reference; names = left.names; is = the_version.1.is }),
+      )
+      one (suc i) w e = absurd (none-some w e)
 
-  account_of : (a : Account) × HoldsAccount layouts s shelf.table a
-  account_of = some_account layouts s shelf.table shelf.holds
+  abbrev Released : Table ℕ → Account → Result (Unit {0}) HeapMap → Type 0
+  Released t a r = MatchResult r (λ done. (is_version_of s gone ≡ true) × Releases layouts s t a gone new) (λ (back : HeapMap). (is_version_of s gone ≡ false) × (back.root ≡ gone))
 
-  module _ {limit : Option ℕ} (m : IntMap) (answers : AnswersVersion layouts shelf.table (ChangesObjects limit kit most_objects shelf.table) (AreEntries kit.node m) made.root mid) (releases : Releases layouts mid answers.after answers.account made.root new) where
-    keeps : KeepsConstants shelf.table answers.after
-    keeps = objects_keep kit most_objects shelf.table answers.after (owned_with shelf.table made.root answers.stands.reference) answers.changed
-
-    named : VersionNames mid answers.after v the_version.reference
-    named =
-        let more = owned_more layouts s mid kit (v ∷ []) shelf same made.root answers.stands.reference in
-        named_still s mid shelf.table answers.after more.0 same (ap (λ (w : Table ℕ). w.owned) answers.changed.rest ∙ more.1) v the_version.reference the_version.names
-
-    apart : AreApart made.root v
-    apart h e e' = new_apart layouts s shelf.table account_of.0 account_of.1 mid same v made.root the_version.reference the_version.names answers.has_new_root h e' e
-
-    left : LeavesVersion layouts answers.after answers.account v the_version.reference new
-    left = others_left layouts mid answers.after answers.account answers.holds new after made.root v the_version.reference releases apart named
-
-    shelf_left : Shelf layouts new kit (v ∷ [])
-    shelf_left = record {
-      table = record answers.after { owned = left.owned };
-      holds = (left.holds.place, left.holds.holds);
-      kit_is = record { cells = keeps.types kit.cell _ shelf.kit_is.cells; nodes = keeps.types kit.node _ shelf.kit_is.nodes };
-      stands = one;
-    }
-      where
-        one : (i : ℕ) (w : Option GcRootIndex) → slice_get (v ∷ []) i ≡ Some w → (n : IntMap) × StandsForMapOf new (record answers.after { owned = left.owned }) w kit.node n
-        one zero w e = (
-          the_entries,
-          subst (λ (x : Option GcRootIndex). StandsForMapOf new (record answers.after { owned = left.owned }) x kit.node the_entries) (grind (arith, e)) (record {
-            reference = the_version.reference;
-            names = left.names;
-            is = map_stays shelf.table answers.after keeps the_version.reference kit.node the_entries the_version.is;
-          }),
-        )
-        one (suc i) w e = absurd (none-some w e)
-
-  abbrev Released : Result (Unit {0}) HeapMap → Table ℕ → Account → Type 0
-  Released r t a = MatchResult r (λ done. (is_version_of mid made.root ≡ true) × Releases layouts mid t a made.root new) (λ (back : HeapMap). (is_version_of mid made.root ≡ false) × (back.root ≡ made.root))
-
-  module _ (change : IntMap → IntMap) (limits limits' : Limits) (counter : Option ℕ) (result : Result HeapMap ListFault) (is : result ≡ Ok made) (released : Result (Unit {0}) HeapMap) (x : Unit {0}) (released_is : released ≡ Ok x)
-      (releases : (t : Table ℕ) (a : Account) → HoldsAccount layouts mid t a → Released released t a) where
-    left_in : AnswersMap layouts counter kit (change the_entries) shelf.table limits limits' result mid → Shelf layouts new kit (v ∷ [])
-    left_in answers =
-        let known = subst (λ (r : Result HeapMap ListFault). AnswersMap layouts counter kit (change the_entries) shelf.table limits limits' r mid) is answers in
-        shelf_left (change the_entries) known (subst (λ (r : Result (Unit {0}) HeapMap). Released r known.after known.account) released_is (releases known.after known.account known.holds)).1
-
-    pub given_up : ((is_kit_of s kit && is_version_of s v) ≡ false → (result ≡ Err fault.WrongStore) × (mid ≡ s))
-        → (is_kit_of s kit ≡ true → is_version_of s v ≡ true → (t : Table ℕ) (a : Account) (m : IntMap) → HoldsAccount layouts s t a → StandsForMapOf s t v kit.node m
-        → AnswersMap layouts counter kit (change m) t limits limits' result mid) → Shelf layouts new kit (v ∷ [])
-    given_up wrong answers = by (is_kit_of s kit) (is_version_of s v) refl refl
-      where
-        by : (k w : Bool) → is_kit_of s kit ≡ k → is_version_of s v ≡ w → Shelf layouts new kit (v ∷ [])
-        by true true kit_own own = left_in (answers kit_own own shelf.table account_of.0 the_entries account_of.1 the_version)
-        by true false kit_own own = absurd (cc (sym is ∙ (wrong (false_behind (is_kit_of s kit) (is_version_of s v) own)).0))
-        by false w kit_own own = absurd (cc (sym is ∙ (wrong (and_false (is_kit_of s kit) (is_version_of s v) kit_own)).0))
+  pub given_up : (result : Result (Unit {0}) HeapMap) (x : Unit {0}) → result ≡ Ok x → ((t : Table ℕ) (a : Account) → HoldsAccount layouts s t a → Released t a result) → Shelf layouts new kit (v ∷ [])
+  given_up result x is releases =
+      let account = some_account layouts s shelf.table shelf.holds in
+      let released = subst (Released shelf.table account.0) is (releases shelf.table account.0 account.1) in
+      shelf_left account.0 (others_left layouts s shelf.table account.0 account.1 new same gone v the_version.1.reference released.1 apart the_version.1.names)
 
 -- the empty map as a call asks for it
 pub empty_in : (layouts : Layouts) (s : StoreView ℕ) (t : Table ℕ) (holds : HoldsTable layouts s t) (v : Option GcRootIndex) (ty : ℕ) → v ≡ None → MapOfStands ℕ layouts s v ty

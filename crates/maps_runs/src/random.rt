@@ -2,11 +2,12 @@
 
 ghost use Rattle.std.specs.Prelude.{◌∷◌, [], IfOk};
 ghost use Rattle.gc_lists.specs.declared.kit.Kit.{Kit};
+ghost use Rattle.gc_lists.specs.Answers.{AreApart};
 ghost use Rattle.maps_runs.specs.Shelves.{Shelf};
 
 use crate::kits::collect;
 use crate::page::Page;
-use crate::shelf::{cut, find, put};
+use crate::shelf::{cut, find, give_up, put};
 use gc_heap::GcHeap;
 use gc_lists::{Kit, ListFault};
 use gc_maps::HeapMap;
@@ -38,12 +39,33 @@ fn change<H: GcHeap>(
     value: Option<i64>,
 ) -> Result<HeapMap, ListFault>
     requires { Shelf H.KIND store.old kit.now (map.now.root ∷ []) }
-    ensures { IfOk result (λ made. Shelf H.KIND store.new kit.now (made.root ∷ [])) }
+    ensures shelf { IfOk result (λ made. Shelf H.KIND store.new kit.now (made.root ∷ [])) }
+    ensures apart { IfOk result (λ made. AreApart map.now.root made.root) }
 {
     match value {
         Some(value) => put(store, limiter, kit, map, key, value),
         None => cut(store, limiter, kit, map, key),
     }
+}
+
+/// The changed map in place of the one before it, which is given up where that is asked, and else keeps its nodes for good.
+fn replace<H: GcHeap>(
+    store: &mut Store<H, u64>,
+    limiter: &mut PageLimit,
+    kit: &Kit,
+    map: HeapMap,
+    key: i64,
+    value: Option<i64>,
+    gives_up: bool,
+) -> Result<HeapMap, ListFault>
+    requires { Shelf H.KIND store.old kit.now (map.root ∷ []) }
+    ensures { IfOk result (λ made. Shelf H.KIND store.new kit.now (made.root ∷ [])) }
+{
+    let made = change(store, limiter, kit, &map, key, value)?;
+    if gives_up {
+        give_up(store, map, &made)?;
+    }
+    Ok(made)
 }
 
 /// Whether a map has at each key what a table has.
@@ -63,24 +85,24 @@ fn agrees<H: GcHeap>(
     Ok(true)
 }
 
-/// At the end of a round a collection runs, and a map has to agree with a table.
+/// Where the changes so far fill their rounds, a collection runs, and a map has to agree with a table.
 fn agrees_at<H: GcHeap>(
     store: &mut Store<H, u64>,
-    turn: u32,
+    changes: u32,
     map: &HeapMap,
     table: &[Option<i64>; KEYS],
 ) -> Result<bool, ListFault>
     requires { (kit : Kit) × Shelf H.KIND store.old kit (map.now.root ∷ []) }
     ensures { (kit : Kit) → Shelf H.KIND store.old kit (map.now.root ∷ []) → Shelf H.KIND store.new kit (map.now.root ∷ []) }
 {
-    if turn % CHANGES_A_ROUND != 0 {
+    if changes % CHANGES_A_ROUND != 0 {
         return Ok(true);
     }
     collect(store);
     agrees(store, map, table)
 }
 
-/// Changes a map and a table alike, and says whether they agreed after each round.
+/// Changes a map and a table alike, gives every second version up, and says whether both agreed after each round.
 fn change_both<H: GcHeap>(
     store: &mut Store<H, u64>,
     limiter: &mut PageLimit,
@@ -99,16 +121,16 @@ fn change_both<H: GcHeap>(
         } else {
             None
         };
-        map = change(store, limiter, kit, &map, key as i64, value)?;
+        map = replace(store, limiter, kit, map, key as i64, value, turn % 2 == 1)?;
         table[key] = value;
-        if !agrees_at(store, turn, &map, &table)? {
+        if !agrees_at(store, turn + 1, &map, &table)? {
             return Ok(false);
         }
     }
     agrees(store, &map, &table)
 }
 
-/// Many changes of a map, no version of which is given up, and whether it agreed with a table.
+/// Many changes of a map, every second version of which is given up, and whether it agreed with a table.
 pub(crate) fn run_random<H: GcHeap>(
     page: &mut Page,
     store: &mut Store<H, u64>,

@@ -4,6 +4,7 @@ ghost use Rattle.std.specs.Prelude.{false, true, ◌≡◌, ◌∷◌, ◌<◌, 
 ghost use Rattle.gc_store.specs.Stores.{IsSameStore};
 ghost use Rattle.gc_values.specs.declared.root.GcRootIndex.{GcRootIndex};
 ghost use Rattle.gc_lists.specs.declared.kit.Kit.{Kit};
+ghost use Rattle.gc_lists.specs.Answers.{AreApart};
 ghost use Rattle.gc_lists.specs.Versions.{is_version_of};
 ghost use Rattle.maps_runs.specs.Shelves.{IsRootedIn, Shelf};
 
@@ -30,10 +31,26 @@ pub(crate) fn put<H: GcHeap>(
     ensures shelf { (vs : List (Option GcRootIndex)) → Shelf H.KIND store.old kit.now (map.now.root ∷ vs)
         → MatchResult result (λ made. Shelf H.KIND store.new kit.now (made.root ∷ (map.now.root ∷ vs)))
         (λ fault. Shelf H.KIND store.new kit.now (map.now.root ∷ vs)) }
+    ensures apart { IfOk result (λ made. AreApart map.now.root made.root) }
     ensures own { IfOk result (λ made. IsRootedIn store.new made.root) }
     ensures same { IsSameStore store.old store.new }
 {
     map.insert(kit, store, limiter, key, value)
+}
+
+/// Releases a map. Another one stands still, which has an owned root of its own.
+pub(crate) fn give_up<H: GcHeap>(
+    store: &mut Store<H, u64>,
+    map: HeapMap,
+    other: &HeapMap,
+) -> Result<(), ListFault>
+    requires { AreApart map.root other.now.root }
+    ensures { (kit : Kit) → Shelf H.KIND store.old kit (other.now.root ∷ []) → IfOk result (λ done. Shelf H.KIND store.new kit (other.now.root ∷ [])) }
+{
+    match map.release(store) {
+        Ok(()) => Ok(()),
+        Err(_) => Err(ListFault::WrongStore),
+    }
 }
 
 /// Makes a map with that value at the key, and gives it up again.
@@ -48,11 +65,8 @@ pub(crate) fn put_in_vain<H: GcHeap>(
     requires { Shelf H.KIND store.old kit.now (map.now.root ∷ []) }
     ensures { IfOk result (λ done. Shelf H.KIND store.new kit.now (map.now.root ∷ [])) }
 {
-    let made = map.insert(kit, store, limiter, key, value)?;
-    match made.release(store) {
-        Ok(()) => Ok(()),
-        Err(_) => Err(ListFault::WrongStore),
-    }
+    let made = put(store, limiter, kit, map, key, value)?;
+    give_up(store, made, map)
 }
 
 /// All entries of a map.
@@ -77,9 +91,10 @@ pub(crate) fn cut<H: GcHeap>(
     key: i64,
 ) -> Result<HeapMap, ListFault>
     requires { Shelf H.KIND store.old kit.now (map.now.root ∷ []) }
-    ensures { (vs : List (Option GcRootIndex)) → Shelf H.KIND store.old kit.now (map.now.root ∷ vs)
+    ensures shelf { (vs : List (Option GcRootIndex)) → Shelf H.KIND store.old kit.now (map.now.root ∷ vs)
         → MatchResult result (λ made. Shelf H.KIND store.new kit.now (made.root ∷ (map.now.root ∷ vs)))
         (λ fault. Shelf H.KIND store.new kit.now (map.now.root ∷ vs)) }
+    ensures apart { IfOk result (λ made. AreApart map.now.root made.root) }
 {
     map.remove(kit, store, limiter, key)
 }
