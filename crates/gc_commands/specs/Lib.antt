@@ -5,3 +5,4 @@ pub mod Text
 pub mod Reading
 pub mod Parts
 pub mod TypeWords
+pub mod Kept

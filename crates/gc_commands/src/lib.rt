@@ -31,7 +31,7 @@ pub use command::{
 pub use form::Form;
 pub use hex::{push_bytes, push_hex};
 pub use numbers::number;
-pub use parse::{MAX_LINE, parse_line, spelling_is_unique};
+pub use parse::{MAX_LINE, keep_operands, parse_line, parse_line_into, spelling_is_unique};
 pub use reply::{ByteText, Refusal, Reply, ReplyValue};
 pub use spelled::push_declaration;
-pub use text::{fixed_line, push_reply, reply_text};
+pub use text::{fixed_line, push_reply, refusal_line, reply_text};

@@ -16,13 +16,17 @@ use std::alloc::{AllocError, Global};
 
 /// The words behind `new`: a register, a type and any number of operands.
 #[inline(always)]
-pub(crate) fn read_new(alloc: Global, words: &mut Words) -> Result<Option<Command>, AllocError>
+pub(crate) fn read_new(
+    alloc: Global,
+    room: &mut Operands,
+    words: &mut Words,
+) -> Result<Option<Command>, AllocError>
     ensures { IfOk result (λ command. Reads (IsOfForm form.New) operands_of words.old command) }
 {
     let Some((d, t)) = read_target(words) else {
         return Ok(None);
     };
-    let Some(values) = read_operands(alloc, words)? else {
+    let Some(values) = read_operands(alloc, room, words)? else {
         return Ok(None);
     };
     Ok(Some(Command::New {
@@ -34,7 +38,11 @@ pub(crate) fn read_new(alloc: Global, words: &mut Words) -> Result<Option<Comman
 
 /// The words behind `newexn`: a register, a type, a tag and any number of operands.
 #[inline(always)]
-pub(crate) fn read_new_exn(alloc: Global, words: &mut Words) -> Result<Option<Command>, AllocError>
+pub(crate) fn read_new_exn(
+    alloc: Global,
+    room: &mut Operands,
+    words: &mut Words,
+) -> Result<Option<Command>, AllocError>
     ensures { IfOk result (λ command. Reads (IsOfForm form.NewExn) operands_of words.old command) }
 {
     let Some((d, t)) = read_target(words) else {
@@ -43,7 +51,7 @@ pub(crate) fn read_new_exn(alloc: Global, words: &mut Words) -> Result<Option<Co
     let Some(tag) = read_u32(words) else {
         return Ok(None);
     };
-    let Some(values) = read_operands(alloc, words)? else {
+    let Some(values) = read_operands(alloc, room, words)? else {
         return Ok(None);
     };
     Ok(Some(Command::NewExn {
@@ -68,13 +76,17 @@ pub(crate) fn read_new_arr(words: &mut Words) -> Option<Command>
 
 /// The words behind `fixed`: a register, a type and any number of operands.
 #[inline(always)]
-pub(crate) fn read_fixed(alloc: Global, words: &mut Words) -> Result<Option<Command>, AllocError>
+pub(crate) fn read_fixed(
+    alloc: Global,
+    room: &mut Operands,
+    words: &mut Words,
+) -> Result<Option<Command>, AllocError>
     ensures { IfOk result (λ command. Reads (IsOfForm form.Fixed) operands_of words.old command) }
 {
     let Some((d, t)) = read_target(words) else {
         return Ok(None);
     };
-    let Some(values) = read_operands(alloc, words)? else {
+    let Some(values) = read_operands(alloc, room, words)? else {
         return Ok(None);
     };
     Ok(Some(Command::Fixed {

@@ -9,10 +9,11 @@ ghost use Rattle.std.specs.Option.{option_map_or};
 ghost use Rattle.std.specs.Str.{IsUtf8};
 ghost use Rattle.gc_commands.specs.declared.command.Command.{Command};
 ghost use Rattle.gc_commands.specs.Forms.{has_list};
+ghost use Rattle.gc_commands.specs.Kept.{operands_kept};
 ghost use Rattle.gc_commands.specs.Reading.{Reads};
 ghost use Rattle.gc_commands.specs.Spelling.{FitsCommand, IsCommandOf, IsOfForm, operands_of, spelling};
 
-use crate::command::Command;
+use crate::command::{Command, Operands};
 use crate::declarations::{read_array, read_exn, read_struct};
 use crate::form::{Form, form_of};
 use crate::objects::{read_bytes, read_fixed, read_new, read_new_arr, read_new_exn};
@@ -31,8 +32,20 @@ pub const MAX_LINE: usize = 1_048_576;
 /// spells none. Numbers are plain decimals without leading zeros, words have one space between
 /// them, and a line of more than `MAX_LINE` bytes is `Bad`. Takes time linear in the line, and
 /// memory for as many fields, values or bytes as the line has words, where its form has a list.
-#[inline(always)]
 pub fn parse_line(alloc: Global, line: &[u8]) -> Result<Command, AllocError>
+    ensures { IfOk result (λ command. IsCommandOf line.now command) }
+{
+    parse_line_into(alloc, &mut Operands::from_vec(Vec::new(alloc)), line)
+}
+
+/// The command that a line is, as `parse_line` says. Its operands, where it has a list of them, stand in the list that is
+/// handed in, which takes memory only where it has no room for them; what it held is lost. `keep_operands` gives it back.
+#[inline(always)]
+pub fn parse_line_into(
+    alloc: Global,
+    room: &mut Operands,
+    line: &[u8],
+) -> Result<Command, AllocError>
     ensures { IfOk result (λ command. IsCommandOf line.now command) }
 {
     if line.len() > MAX_LINE {
@@ -45,7 +58,7 @@ pub fn parse_line(alloc: Global, line: &[u8]) -> Result<Command, AllocError>
     let Some(mut words) = words_behind(behind) else {
         return Ok(Command::Bad);
     };
-    match read_form(alloc, form, &mut words)? {
+    match read_form(alloc, room, form, &mut words)? {
         Some(command) => Ok(command),
         None => Ok(Command::Bad),
     }
@@ -65,15 +78,20 @@ fn words_behind(behind: Option<&[u8]>) -> Option<Words>
 
 /// The command of a form that the words behind its name spell. Only a list takes memory.
 #[inline(always)]
-fn read_form(alloc: Global, form: Form, words: &mut Words) -> Result<Option<Command>, AllocError>
+fn read_form(
+    alloc: Global,
+    room: &mut Operands,
+    form: Form,
+    words: &mut Words,
+) -> Result<Option<Command>, AllocError>
     ensures { IfOk result (λ command. Reads (IsOfForm form) operands_of words.old command) }
 {
     match form {
         Form::Struct => read_struct(alloc, words),
         Form::Exn => read_exn(alloc, words),
-        Form::New => read_new(alloc, words),
-        Form::NewExn => read_new_exn(alloc, words),
-        Form::Fixed => read_fixed(alloc, words),
+        Form::New => read_new(alloc, room, words),
+        Form::NewExn => read_new_exn(alloc, room, words),
+        Form::Fixed => read_fixed(alloc, room, words),
         Form::Bytes => read_bytes(alloc, words),
         _ => Ok(read_listless(form, words)),
     }
@@ -118,6 +136,19 @@ fn read_listless(form: Form, words: &mut Words) -> Option<Command>
         Form::Grow => read_grow(words),
         Form::Cap => read_alone(words, Command::Cap),
         _ => unreachable!(),
+    }
+}
+
+/// Keeps the list of a command's operands, where it has one, so that `parse_line_into` uses its room again. Takes no memory.
+#[inline(always)]
+pub fn keep_operands(room: &mut Operands, command: Command)
+    ensures { room.new ≡ operands_kept command room.old }
+{
+    match command {
+        Command::New { values, .. } => *room = values,
+        Command::NewExn { values, .. } => *room = values,
+        Command::Fixed { values, .. } => *room = values,
+        _ => {}
     }
 }
 

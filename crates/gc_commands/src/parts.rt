@@ -14,11 +14,12 @@ ghost use Rattle.gc_commands.specs.Reading.{Reads, ReadsFirst};
 ghost use Rattle.gc_commands.specs.Spelling.{FitsOperand, into_words, type_count};
 ghost use Rattle.gc_commands.specs.Words.{operand_text};
 
-use crate::command::Operand;
+use crate::command::{Operand, Operands};
 use crate::numbers::{number, register_of, type_of};
 use crate::operands::operand_of;
 use crate::words::Words;
 use std::alloc::{AllocError, Global};
+use std::mem;
 
 /// A register, from 0 to 65535.
 #[inline(always)]
@@ -171,14 +172,26 @@ pub(crate) fn read_target(words: &mut Words) -> Option<(u16, u32)>
     Some((d, t))
 }
 
-/// The operands that all words spell.
+/// The list of operands that was kept, with nothing in it. Nothing is kept afterwards.
+#[inline(always)]
+fn take_room(alloc: Global, room: &mut Operands) -> Vec<Operand>
+    ensures { result.items ≡ [] }
+{
+    let kept = mem::replace(room, Operands::from_vec(Vec::new(alloc)));
+    let mut values = kept.into_vec();
+    values.clear();
+    values
+}
+
+/// The operands that all words spell, in the list that was kept, where it has room for them.
 pub(crate) fn read_operands(
     alloc: Global,
+    room: &mut Operands,
     words: &mut Words,
 ) -> Result<Option<Vec<Operand>>, AllocError>
     ensures { IfOk result (λ values. Reads (AllByRecursion FitsOperand) (map operand_text) words.old (option_map (λ vs. vs.items) values)) }
 {
-    let mut values = Vec::with_capacity(alloc, words.count())?;
+    let mut values = take_room(alloc, room);
     while let Some(word) = words.next() {
         let Some(value) = operand_of(word) else {
             return Ok(None);

@@ -81,8 +81,8 @@ fn push_value(text: &mut String, value: &ReplyValue) -> Result<(), AllocError>
     }
 }
 
-/// The name of a refusal, with a line feed behind it.
-fn refusal_line(refusal: Refusal) -> &'static str
+/// The name of a refusal, with a line feed behind it: the line of its reply.
+pub fn refusal_line(refusal: Refusal) -> &'static str
     ensures { result.now ≡ refusal_text refusal ++ codes "\n" }
 {
     match refusal {

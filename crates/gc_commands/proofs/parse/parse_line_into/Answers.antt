@@ -6,7 +6,7 @@ use Rattle.gc_commands.specs.Spelling.{FitsCommand, words_of}
 use Rattle.gc_commands.proofs.LineLemmas.{command_of_words, no_text_behind, words_of_spelled}
 use Rattle.gc_commands.proofs.ObjectLemmas.{command_read, no_name}
 use Rattle.gc_commands.proofs.WordLemmas.{words_left}
-use Rattle.gc_commands.proofs.parse.parse_line.Goals as goal
+use Rattle.gc_commands.proofs.parse.parse_line_into.Goals as goal
 
 pub returns-in_default : goal.returns-in_default
 returns-in_default c = λ command spells. no_name _ c.cut_name.result.0.now _ c.cut_name.ensures.words c.in_default.ensures command spells.fits (words_of_spelled c.args.line.now command spells)
