@@ -4,6 +4,7 @@ pub mod CollectionLemmas
 pub mod CountLemmas
 pub mod CutLemmas
 pub mod DeclareLemmas
+pub mod EndingLemmas
 pub mod FieldRequests
 pub mod FitLemmas
 pub mod FoundLemmas

@@ -1,6 +1,6 @@
 -- When a command wants memory: what its tests leave, and what it takes.
 use Rattle.std.proofs.Common.{◌≡◌, ◌⊎◌, ℕ, Bool, ◌&&◌, true, false, [], ◌∷◌, Option, Some, None, sym, ap, ◌∙◌, refl, subst}
-use Rattle.std.specs.Prelude.{Err, is_some, unwrap_or}
+use Rattle.std.specs.Prelude.{Err, OnErr, Result, is_some, unwrap_or}
 use Rattle.std.proofs.lemmas.Option.{none-some, slice_get_past}
 use Rattle.gc_types.specs.declared.kind.Layouts.{Layouts}
 use Rattle.gc_model.specs.Allocation.{too_large}
@@ -23,13 +23,16 @@ use Rattle.gc_store.specs.Thrown.{AnswersPending}
 use Rattle.gc_store.specs.Values.{ReadsValue}
 use Rattle.gc_commands.specs.declared.command.Command.{Command}
 use Rattle.gc_commands.specs.declared.command.Command.TheVariants as command
+use Rattle.gc_commands.specs.declared.reply.Reply.{Reply}
 use Rattle.gc_commands.specs.declared.reply.Refusal.{Refusal}
 use Rattle.gc_commands.specs.declared.reply.Refusal.TheVariants as refusal
+use Rattle.gc_script.specs.declared.runner.RunError.{RunError}
 use Rattle.gc_script.specs.Slots.{RunnerView, option_join}
 use Rattle.gc_script.specs.State.{State, Held, number, reference, RegisterStands, HoldsState}
 use Rattle.gc_script.specs.Steps.{tests, first_failing, heap_tests, getting_tests}
 use Rattle.gc_script.specs.Named.{LacksRegister}
 use Rattle.gc_script.specs.Wants.{IsUnrefused, IsNeverSet, ReadTakes, TakesIn, MayWant}
+use Rattle.gc_script.proofs.ResultLemmas.{on_err}
 
 -- where nothing but tests of room is left, nothing else refuses
 pub full_only : (b : Bool) → IsUnrefused (first_failing ((b, refusal.RootsFull) ∷ []))
@@ -77,6 +80,11 @@ fault_makes layouts t a v fault.Memory new told = told.0
 -- a command that is known may want memory as it does
 pub may_as : (layouts : Layouts) (s : State) (c known : Command) → c ≡ known → MayWant layouts s known → MayWant layouts s c
 may_as layouts s c known is may = subst (MayWant layouts s) (sym is) may
+
+-- why a command that is known fails is why it fails as the command that was given
+pub may_by : (layouts : Layouts) (store : StoreView ℕ) (runner : RunnerView) (r : Result Reply RunError) (c known : Command) → c ≡ known → OnErr r ((s : State) → HoldsState layouts store runner s → MayWant layouts s known)
+    → OnErr r ((s : State) → HoldsState layouts store runner s → MayWant layouts s c)
+may_by layouts store runner r c known is = on_err r (λ may s holds. may_as layouts s c known is (may s holds))
 
 -- a slot that is there, and a read of it that fails
 slot_unrefused : (slot : Option Slot) (there : Slot) (full : Bool) → slot ≡ Some there → IsUnrefused (first_failing (getting_tests slot full))

@@ -15,3 +15,4 @@ pub mod Lines
 pub mod Cutting
 pub mod Session
 pub mod Script
+pub mod Endings

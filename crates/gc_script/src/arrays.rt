@@ -2,16 +2,18 @@
 
 ghost use Rattle.std.specs.Prelude.{◌≡◌, OnErr};
 ghost use Rattle.gc_commands.specs.declared.command.Command.TheVariants as Command;
+ghost use Rattle.gc_script.specs.Endings.{told};
 ghost use Rattle.gc_script.specs.State.{State, HoldsState};
 ghost use Rattle.gc_script.specs.Run.{RunsOne};
 ghost use Rattle.gc_script.specs.Wants.{MayWant};
 ghost use Rattle.gc_store.specs.Stores.{IsSameStore};
 
+use crate::ending::Ending;
 use crate::make::place;
 use crate::objects::ValueTypes;
-use crate::runner::{RunError, Runner};
+use crate::runner::Runner;
 use crate::values::{any_unset, check_operands, check_value, give_values, operand_value};
-use gc_commands::{Operand, Refusal, Reply};
+use gc_commands::{Operand, Refusal};
 use gc_heap::GcHeap;
 use gc_store::{Contents, Place, ResourceLimiter, Store};
 use gc_types::VMSharedTypeIndex;
@@ -27,23 +29,23 @@ impl Runner {
         t: u32,
         len: u32,
         operand: &Operand,
-    ) -> Result<Reply, RunError>
+    ) -> Ending
         ensures runs { (s : State) → HoldsState H.KIND store.old self.old s
             → RunsOne H.KIND store.old.alloc_counter (L.limits limiter.old) (L.limits limiter.new) s
-            (Command.NewArr d t len operand.now) result store.new self.new }
-        ensures cause { OnErr result ((s : State) → HoldsState H.KIND store.old self.old s → MayWant H.KIND s (Command.NewArr d t len operand.now)) }
+            (Command.NewArr d t len operand.now) (told result) store.new self.new }
+        ensures cause { OnErr (told result) ((s : State) → HoldsState H.KIND store.old self.old s → MayWant H.KIND s (Command.NewArr d t len operand.now)) }
         ensures same { IsSameStore store.old store.new }
     {
         let ty = VMSharedTypeIndex::new(t);
         let Some(element) = store.types().array_elem(ty) else {
-            return Ok(Reply::Refused(Refusal::NoSuchName));
+            return Ending::Refused(Refusal::NoSuchName);
         };
         let Some(value) = operand_value(&self.registers, operand) else {
-            return Ok(Reply::Refused(Refusal::NoSuchName));
+            return Ending::Refused(Refusal::NoSuchName);
         };
         if len > 0 {
             if let Err(refusal) = check_value(store, Some(element), &value) {
-                return Ok(Reply::Refused(refusal));
+                return Ending::Refused(refusal);
             }
         }
         place(
@@ -64,30 +66,30 @@ impl Runner {
         d: u16,
         t: u32,
         operands: &[Operand],
-    ) -> Result<Reply, RunError>
+    ) -> Ending
         ensures runs { (s : State) → HoldsState H.KIND store.old self.old s
             → RunsOne H.KIND store.old.alloc_counter (L.limits limiter.old) (L.limits limiter.new) s
-            (Command.Fixed d t operands.now) result store.new self.new }
-        ensures cause { OnErr result ((s : State) → HoldsState H.KIND store.old self.old s → MayWant H.KIND s (Command.Fixed d t operands.now)) }
+            (Command.Fixed d t operands.now) (told result) store.new self.new }
+        ensures cause { OnErr (told result) ((s : State) → HoldsState H.KIND store.old self.old s → MayWant H.KIND s (Command.Fixed d t operands.now)) }
         ensures same { IsSameStore store.old store.new }
     {
         let ty = VMSharedTypeIndex::new(t);
         let Some(element) = store.types().array_elem(ty) else {
-            return Ok(Reply::Refused(Refusal::NoSuchName));
+            return Ending::Refused(Refusal::NoSuchName);
         };
         if any_unset(&self.registers, operands) {
-            return Ok(Reply::Refused(Refusal::NoSuchName));
+            return Ending::Refused(Refusal::NoSuchName);
         }
         let types = ValueTypes::Elements(element);
         if let Err(refusal) = check_operands(store, &self.registers, &types, operands) {
-            return Ok(Reply::Refused(refusal));
+            return Ending::Refused(refusal);
         }
         // An array has fewer than 2^32 elements in every heap.
         let Ok(len) = u32::try_from(operands.len()) else {
-            return Ok(Reply::Refused(Refusal::TooLarge));
+            return Ending::Refused(Refusal::TooLarge);
         };
         if give_values(&mut self.values, &self.registers, operands).is_err() {
-            return Err(RunError::OutOfMemory);
+            return Ending::OutOfMemory;
         }
         place(
             &mut self.registers,
@@ -108,23 +110,23 @@ impl Runner {
         d: u16,
         t: u32,
         bytes: &[u8],
-    ) -> Result<Reply, RunError>
+    ) -> Ending
         ensures runs { (s : State) → HoldsState H.KIND store.old self.old s
             → RunsOne H.KIND store.old.alloc_counter (L.limits limiter.old) (L.limits limiter.new) s
-            (Command.NewBytes d t bytes.now) result store.new self.new }
-        ensures cause { OnErr result ((s : State) → HoldsState H.KIND store.old self.old s → MayWant H.KIND s (Command.NewBytes d t bytes.now)) }
+            (Command.NewBytes d t bytes.now) (told result) store.new self.new }
+        ensures cause { OnErr (told result) ((s : State) → HoldsState H.KIND store.old self.old s → MayWant H.KIND s (Command.NewBytes d t bytes.now)) }
         ensures same { IsSameStore store.old store.new }
     {
         let ty = VMSharedTypeIndex::new(t);
         let Some(element) = store.types().array_elem(ty) else {
-            return Ok(Reply::Refused(Refusal::NoSuchName));
+            return Ending::Refused(Refusal::NoSuchName);
         };
         if !element.element_type.is_i8() {
-            return Ok(Reply::Refused(Refusal::NotI8Array));
+            return Ending::Refused(Refusal::NotI8Array);
         }
         // An array has fewer than 2^32 elements in every heap.
         let Ok(len) = u32::try_from(bytes.len()) else {
-            return Ok(Reply::Refused(Refusal::TooLarge));
+            return Ending::Refused(Refusal::TooLarge);
         };
         place(
             &mut self.registers,

@@ -2,11 +2,13 @@
 
 ghost use Rattle.std.specs.Prelude.{◌≡◌, Ok, OnErr};
 ghost use Rattle.gc_commands.specs.declared.command.Command.TheVariants as Command;
+ghost use Rattle.gc_script.specs.Endings.{ended, told};
 ghost use Rattle.gc_script.specs.State.{State, HoldsState};
 ghost use Rattle.gc_script.specs.Run.{RunsOne, GoesOn};
 ghost use Rattle.gc_script.specs.Wants.{MayWant};
 ghost use Rattle.gc_store.specs.Stores.{IsSameStore};
 
+use crate::ending::Ending;
 use crate::objects::{Wanted, find_object};
 use crate::reads::{make_room, put_read};
 use crate::runner::{RunError, Runner};
@@ -47,11 +49,11 @@ impl Runner {
         t: u32,
         tag: u32,
         operands: &[Operand],
-    ) -> Result<Reply, RunError>
+    ) -> Ending
         ensures runs { (s : State) → HoldsState H.KIND store.old self.old s
             → RunsOne H.KIND store.old.alloc_counter (L.limits limiter.old) (L.limits limiter.new) s
-            (Command.NewExn d t tag operands.now) result store.new self.new }
-        ensures cause { OnErr result ((s : State) → HoldsState H.KIND store.old self.old s → MayWant H.KIND s (Command.NewExn d t tag operands.now)) }
+            (Command.NewExn d t tag operands.now) (told result) store.new self.new }
+        ensures cause { OnErr (told result) ((s : State) → HoldsState H.KIND store.old self.old s → MayWant H.KIND s (Command.NewExn d t tag operands.now)) }
         ensures same { IsSameStore store.old store.new }
     {
         let ty = VMSharedTypeIndex::new(t);
@@ -63,22 +65,22 @@ impl Runner {
     }
 
     /// Throws the exception in register `r`: it is pending afterwards, in place of one that was. Takes no memory.
-    pub(crate) fn throw<H: GcHeap>(&self, store: &mut Store<H, u64>, r: u16) -> Reply
-        ensures goes { (s : State) → HoldsState H.KIND store.old self.now s → GoesOn H.KIND s (Command.Throw r) (Ok result) store.new self.now }
+    pub(crate) fn throw<H: GcHeap>(&self, store: &mut Store<H, u64>, r: u16) -> Result<(), Refusal>
+        ensures goes { (s : State) → HoldsState H.KIND store.old self.now s → GoesOn H.KIND s (Command.Throw r) (Ok (ended result)) store.new self.now }
         ensures same { IsSameStore store.old store.new }
     {
         let value = match self.registers.get(r) {
             Some(value) => value,
-            None => return Reply::Refused(Refusal::NoSuchName),
+            None => return Err(Refusal::NoSuchName),
         };
         let object = match find_object(store, &value, Wanted::Exception) {
             Ok(object) => object,
-            Err(why) => return Reply::Refused(why),
+            Err(why) => return Err(why),
         };
         match store.set_pending(object.root) {
-            Ok(()) => Reply::Refused(Refusal::ThrownException),
+            Ok(()) => Err(Refusal::ThrownException),
             // The root is live, so the store never answers this.
-            Err(_) => Reply::Refused(Refusal::Unrooted),
+            Err(_) => Err(Refusal::Unrooted),
         }
     }
 

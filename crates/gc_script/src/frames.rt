@@ -2,11 +2,13 @@
 
 ghost use Rattle.std.specs.Prelude.{◌≡◌, Ok, OnErr};
 ghost use Rattle.gc_commands.specs.declared.command.Command.TheVariants as Command;
+ghost use Rattle.gc_script.specs.Endings.{ended, told};
 ghost use Rattle.gc_script.specs.State.{State, HoldsState};
 ghost use Rattle.gc_script.specs.Run.{GoesOn};
 ghost use Rattle.gc_script.specs.Wants.{MayWant};
 ghost use Rattle.gc_store.specs.Stores.{IsSameStore};
 
+use crate::ending::Ending;
 use crate::reads::{make_room, put_read};
 use crate::runner::{RunError, Runner};
 use gc_commands::{Refusal, Reply};
@@ -16,50 +18,51 @@ use gc_store::{RawValue, SlotFault, Store};
 impl Runner {
     /// Opens a frame of that many slots.
     #[inline(always)]
-    pub(crate) fn push_frame<H: GcHeap>(
-        &self,
-        store: &mut Store<H, u64>,
-        slots: u16,
-    ) -> Result<Reply, RunError>
-        ensures goes { (s : State) → HoldsState H.KIND store.old self.now s → GoesOn H.KIND s (Command.Push slots) result store.new self.now }
+    pub(crate) fn push_frame<H: GcHeap>(&self, store: &mut Store<H, u64>, slots: u16) -> Ending
+        ensures goes { (s : State) → HoldsState H.KIND store.old self.now s → GoesOn H.KIND s (Command.Push slots) (told result) store.new self.now }
         ensures same { IsSameStore store.old store.new }
     {
         match store.push_frame(u32::from(slots)) {
-            Ok(()) => Ok(Reply::Done),
-            Err(_) => Err(RunError::OutOfMemory),
+            Ok(()) => Ending::Done,
+            Err(_) => Ending::OutOfMemory,
         }
     }
 
     /// Closes the newest frame. Takes no memory.
     #[inline(always)]
-    pub(crate) fn pop_frame<H: GcHeap>(&self, store: &mut Store<H, u64>) -> Reply
-        ensures goes { (s : State) → HoldsState H.KIND store.old self.now s → GoesOn H.KIND s Command.Pop (Ok result) store.new self.now }
+    pub(crate) fn pop_frame<H: GcHeap>(&self, store: &mut Store<H, u64>) -> Result<(), Refusal>
+        ensures goes { (s : State) → HoldsState H.KIND store.old self.now s → GoesOn H.KIND s Command.Pop (Ok (ended result)) store.new self.now }
         ensures same { IsSameStore store.old store.new }
     {
         if store.pop_frame() {
-            Reply::Done
+            Ok(())
         } else {
-            Reply::Refused(Refusal::NoSuchName)
+            Err(Refusal::NoSuchName)
         }
     }
 
     /// Sets slot `k` of the newest frame to the reference in register `r`. Takes no memory.
-    pub(crate) fn store_slot<H: GcHeap>(&self, store: &mut Store<H, u64>, k: u16, r: u16) -> Reply
-        ensures goes { (s : State) → HoldsState H.KIND store.old self.now s → GoesOn H.KIND s (Command.Store k r) (Ok result) store.new self.now }
+    pub(crate) fn store_slot<H: GcHeap>(
+        &self,
+        store: &mut Store<H, u64>,
+        k: u16,
+        r: u16,
+    ) -> Result<(), Refusal>
+        ensures goes { (s : State) → HoldsState H.KIND store.old self.now s → GoesOn H.KIND s (Command.Store k r) (Ok (ended result)) store.new self.now }
         ensures same { IsSameStore store.old store.new }
     {
         let slot = u32::from(k);
         if !store.has_slot(slot) {
-            return Reply::Refused(Refusal::NoSuchName);
+            return Err(Refusal::NoSuchName);
         }
         let (class, handle) = match self.reference_in(store, r) {
             Ok(slot) => slot,
-            Err(why) => return Reply::Refused(why),
+            Err(why) => return Err(why),
         };
         match store.slot_set(slot, class, handle) {
-            Ok(()) => Reply::Done,
+            Ok(()) => Ok(()),
             // The slot is there and the root is live, so the store never answers this.
-            Err(_) => Reply::Refused(Refusal::Unrooted),
+            Err(_) => Err(Refusal::Unrooted),
         }
     }
 

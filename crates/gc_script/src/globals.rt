@@ -2,6 +2,7 @@
 
 ghost use Rattle.std.specs.Prelude.{◌≡◌, Ok, OnErr};
 ghost use Rattle.gc_commands.specs.declared.command.Command.TheVariants as Command;
+ghost use Rattle.gc_script.specs.Endings.{ended};
 ghost use Rattle.gc_script.specs.State.{State, HoldsState};
 ghost use Rattle.gc_script.specs.Run.{GoesOn};
 ghost use Rattle.gc_script.specs.Wants.{MayWant};
@@ -15,22 +16,27 @@ use gc_store::{GLOBAL_COUNT, RawValue, SlotFault, Store};
 
 impl Runner {
     /// Sets global `g` to the reference in register `r`. Takes no memory.
-    pub(crate) fn set_global<H: GcHeap>(&self, store: &mut Store<H, u64>, g: u16, r: u16) -> Reply
-        ensures goes { (s : State) → HoldsState H.KIND store.old self.now s → GoesOn H.KIND s (Command.SetGlobal g r) (Ok result) store.new self.now }
+    pub(crate) fn set_global<H: GcHeap>(
+        &self,
+        store: &mut Store<H, u64>,
+        g: u16,
+        r: u16,
+    ) -> Result<(), Refusal>
+        ensures goes { (s : State) → HoldsState H.KIND store.old self.now s → GoesOn H.KIND s (Command.SetGlobal g r) (Ok (ended result)) store.new self.now }
         ensures same { IsSameStore store.old store.new }
     {
         let global = u32::from(g);
         if global >= GLOBAL_COUNT {
-            return Reply::Refused(Refusal::NoSuchName);
+            return Err(Refusal::NoSuchName);
         }
         let (class, handle) = match self.reference_in(store, r) {
             Ok(slot) => slot,
-            Err(why) => return Reply::Refused(why),
+            Err(why) => return Err(why),
         };
         match store.global_set(global, class, handle) {
-            Ok(()) => Reply::Done,
+            Ok(()) => Ok(()),
             // The global is there and the root is live, so the store never answers this.
-            Err(_) => Reply::Refused(Refusal::Unrooted),
+            Err(_) => Err(Refusal::Unrooted),
         }
     }
 

@@ -2,11 +2,13 @@
 
 ghost use Rattle.std.specs.Prelude.{◌≡◌, Ok};
 ghost use Rattle.gc_commands.specs.declared.command.Command.TheVariants as Command;
+ghost use Rattle.gc_script.specs.Endings.{told};
 ghost use Rattle.gc_script.specs.State.{State, HoldsState};
 ghost use Rattle.gc_script.specs.Run.{RunsOne, GoesOn};
 ghost use Rattle.gc_store.specs.Stores.{IsSameStore};
 
-use crate::runner::{RunError, Runner};
+use crate::ending::Ending;
+use crate::runner::Runner;
 use gc_commands::{Refusal, Reply};
 use gc_heap::GcHeap;
 use gc_store::{GrowFault, ResourceLimiter, Store};
@@ -18,15 +20,15 @@ impl Runner {
         store: &mut Store<H, u64>,
         limiter: &mut L,
         bytes: u64,
-    ) -> Result<Reply, RunError>
+    ) -> Ending
         ensures runs { (s : State) → HoldsState H.KIND store.old self.now s
-            → RunsOne H.KIND store.old.alloc_counter (L.limits limiter.old) (L.limits limiter.new) s (Command.Grow bytes) result store.new self.now }
+            → RunsOne H.KIND store.old.alloc_counter (L.limits limiter.old) (L.limits limiter.new) s (Command.Grow bytes) (told result) store.new self.now }
         ensures same { IsSameStore store.old store.new }
     {
         match store.gc_heap_grow(limiter, bytes) {
-            Ok(()) => Ok(Reply::Done),
-            Err(GrowFault::GcHeapGrowthFailed) => Ok(Reply::Refused(Refusal::GcHeapGrowthFailed)),
-            Err(GrowFault::Memory) => Err(RunError::OutOfMemory),
+            Ok(()) => Ending::Done,
+            Err(GrowFault::GcHeapGrowthFailed) => Ending::Refused(Refusal::GcHeapGrowthFailed),
+            Err(GrowFault::Memory) => Ending::OutOfMemory,
         }
     }
 

@@ -2,11 +2,13 @@
 
 ghost use Rattle.std.specs.Prelude.{Ok};
 ghost use Rattle.gc_commands.specs.declared.command.Command.TheVariants as Command;
+ghost use Rattle.gc_script.specs.Endings.{told};
 ghost use Rattle.gc_script.specs.State.{State, HoldsState};
 ghost use Rattle.gc_script.specs.Run.{RunsOne, GoesOn};
 ghost use Rattle.gc_store.specs.Stores.{IsSameStore};
 
-use crate::runner::{RunError, Runner};
+use crate::ending::Ending;
+use crate::runner::Runner;
 use crate::values::is_live;
 use gc_commands::{Refusal, Reply};
 use gc_heap::GcHeap;
@@ -20,25 +22,25 @@ impl Runner {
         limiter: &mut L,
         d: u16,
         n: u64,
-    ) -> Result<Reply, RunError>
+    ) -> Ending
         ensures runs { (s : State) → HoldsState H.KIND store.old self.old s
-            → RunsOne H.KIND store.old.alloc_counter (L.limits limiter.old) (L.limits limiter.new) s (Command.Host d n) result store.new self.new }
+            → RunsOne H.KIND store.old.alloc_counter (L.limits limiter.old) (L.limits limiter.new) s (Command.Host d n) (told result) store.new self.new }
         ensures same { IsSameStore store.old store.new }
     {
         if self.registers.make_room(d).is_err() {
-            return Err(RunError::OutOfMemory);
+            return Ending::OutOfMemory;
         }
         match store.place_host(limiter, n) {
             Ok(handle) => {
                 self.registers
                     .set(d, RawValue::Ref(GcClass::Extern, Some(handle)));
-                Ok(Reply::Done)
+                Ending::Done
             }
-            Err(PlaceHostFault::RootsFull) => Ok(Reply::Refused(Refusal::RootsFull)),
+            Err(PlaceHostFault::RootsFull) => Ending::Refused(Refusal::RootsFull),
             Err(PlaceHostFault::HeapOutOfMemory(_)) => {
-                Ok(Reply::Refused(Refusal::GcHeapOutOfMemory))
+                Ending::Refused(Refusal::GcHeapOutOfMemory)
             }
-            Err(PlaceHostFault::Memory) => Err(RunError::OutOfMemory),
+            Err(PlaceHostFault::Memory) => Ending::OutOfMemory,
         }
     }
 

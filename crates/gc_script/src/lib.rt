@@ -11,6 +11,7 @@ mod built;
 mod collections;
 pub mod cutter;
 mod declare;
+pub mod ending;
 mod exceptions;
 mod fits;
 mod frames;
@@ -31,9 +32,11 @@ mod values;
 mod writes;
 
 pub use cutter::{LineCutter, pieces_give_lines};
+pub use ending::{Ending, is_quiet};
 pub use gc_commands::{
     ByteText, Command, FieldWord, FieldWords, HeapWord, Operand, Operands, Refusal, Reply,
-    ReplyValue, StorageWord, ValueWord, fixed_line, parse_line, push_reply, reply_text,
+    ReplyValue, StorageWord, ValueWord, fixed_line, keep_operands, parse_line, parse_line_into,
+    push_reply, refusal_line, reply_text,
 };
 pub use runner::{RunError, Runner};
 pub use script::run_script;

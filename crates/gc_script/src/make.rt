@@ -5,6 +5,7 @@ ghost use Rattle.std.specs.Option.{option_map};
 ghost use Rattle.gc_commands.specs.declared.command.Command.TheVariants as Command;
 ghost use Rattle.gc_model.specs.Sizes.{exn_fields_at};
 ghost use Rattle.gc_model.specs.Values.{Object};
+ghost use Rattle.gc_script.specs.Endings.{told};
 ghost use Rattle.gc_script.specs.Requested.{class_of, type_of, requested, requested_fields, requested_tests, IsPlainRequest};
 ghost use Rattle.gc_script.specs.Slots.{RunnerRest, with_registers};
 ghost use Rattle.gc_script.specs.State.{State, HoldsState, visible};
@@ -15,11 +16,12 @@ ghost use Rattle.gc_store.specs.Requests.{CanPlaceIn, IsObjectOf};
 ghost use Rattle.gc_script.specs.Wants.{IsUnrefused, MayWant};
 ghost use Rattle.gc_store.specs.Stores.{IsSameStore};
 
+use crate::ending::Ending;
 use crate::objects::ValueTypes;
 use crate::registers::Registers;
-use crate::runner::{RunError, Runner};
+use crate::runner::Runner;
 use crate::values::{any_unset, check_operands, give_values};
-use gc_commands::{Operand, Refusal, Reply};
+use gc_commands::{Operand, Refusal};
 use gc_heap::GcHeap;
 use gc_refs::I31;
 use gc_store::laws::stores_hold_tables;
@@ -77,32 +79,32 @@ pub(crate) fn place<H: GcHeap, L: ResourceLimiter>(
     d: u16,
     request: Place,
     contents: Contents<'_>,
-) -> Result<Reply, RunError>
+) -> Ending
     requires can { CanPlaceIn ℕ H.KIND store.old request contents }
     requires plain { IsPlainRequest request contents }
     ensures runs { (s : State) (rest : RunnerRest) (object : State → Object ℕ) → HoldsState H.KIND store.old (with_registers registers.old rest) s
         → IsObjectOf store.old s.table request contents.entry (object (visible s))
         → RunsOn H.KIND store.old.alloc_counter (L.limits limiter.old) (L.limits limiter.new) s (making d (class_of request) object)
-        (heap_tests H.KIND s (object (visible s))) result store.new (with_registers registers.new rest) }
+        (heap_tests H.KIND s (object (visible s))) (told result) store.new (with_registers registers.new rest) }
     ensures same { IsSameStore store.old store.new }
 {
     stores_hold_tables(store);
     if registers.make_room(d).is_err() {
-        return Err(RunError::OutOfMemory);
+        return Ending::OutOfMemory;
     }
     let class = class_of(&request);
     match store.place(limiter, request, contents) {
         Ok(handle) => {
             registers.set(d, RawValue::Ref(class, Some(handle)));
-            Ok(Reply::Done)
+            Ending::Done
         }
-        Err(PlaceFault::TooLarge) => Ok(Reply::Refused(Refusal::TooLarge)),
-        Err(PlaceFault::RootsFull) => Ok(Reply::Refused(Refusal::RootsFull)),
-        Err(PlaceFault::HeapOutOfMemory(_)) => Ok(Reply::Refused(Refusal::GcHeapOutOfMemory)),
+        Err(PlaceFault::TooLarge) => Ending::Refused(Refusal::TooLarge),
+        Err(PlaceFault::RootsFull) => Ending::Refused(Refusal::RootsFull),
+        Err(PlaceFault::HeapOutOfMemory(_)) => Ending::Refused(Refusal::GcHeapOutOfMemory),
         // An object without functions and continuations needs no ids.
         Err(PlaceFault::FuncTableFull) => unreachable!(),
         Err(PlaceFault::ContTableFull) => unreachable!(),
-        Err(PlaceFault::Memory) => Err(RunError::OutOfMemory),
+        Err(PlaceFault::Memory) => Ending::OutOfMemory,
     }
 }
 
@@ -115,29 +117,29 @@ impl Runner {
         d: u16,
         request: Place,
         operands: &[Operand],
-    ) -> Result<Reply, RunError>
+    ) -> Ending
         ensures runs { (s : State) → HoldsState H.KIND store.old self.old s
             → RunsOn H.KIND store.old.alloc_counter (L.limits limiter.old) (L.limits limiter.new) s
-            (making d (class_of request) (requested request operands.now)) (requested_tests H.KIND s request operands.now) result store.new self.new }
-        ensures cause { OnErr result ((s : State) → HoldsState H.KIND store.old self.old s
+            (making d (class_of request) (requested request operands.now)) (requested_tests H.KIND s request operands.now) (told result) store.new self.new }
+        ensures cause { OnErr (told result) ((s : State) → HoldsState H.KIND store.old self.old s
             → IsUnrefused (first_failing (requested_tests H.KIND s request operands.now))) }
         ensures same { IsSameStore store.old store.new }
     {
         let Some(count) = fields_len(store.types(), &request) else {
-            return Ok(Reply::Refused(Refusal::NoSuchName));
+            return Ending::Refused(Refusal::NoSuchName);
         };
         if any_unset(&self.registers, operands) {
-            return Ok(Reply::Refused(Refusal::NoSuchName));
+            return Ending::Refused(Refusal::NoSuchName);
         }
         if operands.len() != count {
-            return Ok(Reply::Refused(Refusal::FieldCount));
+            return Ending::Refused(Refusal::FieldCount);
         }
         let types = ValueTypes::Fields(type_of(&request));
         if let Err(refusal) = check_operands(store, &self.registers, &types, operands) {
-            return Ok(Reply::Refused(refusal));
+            return Ending::Refused(refusal);
         }
         if give_values(&mut self.values, &self.registers, operands).is_err() {
-            return Err(RunError::OutOfMemory);
+            return Ending::OutOfMemory;
         }
         place(
             &mut self.registers,
@@ -158,10 +160,10 @@ impl Runner {
         d: u16,
         t: u32,
         operands: &[Operand],
-    ) -> Result<Reply, RunError>
+    ) -> Ending
         ensures runs { (s : State) → HoldsState H.KIND store.old self.old s
-            → RunsOne H.KIND store.old.alloc_counter (L.limits limiter.old) (L.limits limiter.new) s (Command.New d t operands.now) result store.new self.new }
-        ensures cause { OnErr result ((s : State) → HoldsState H.KIND store.old self.old s → MayWant H.KIND s (Command.New d t operands.now)) }
+            → RunsOne H.KIND store.old.alloc_counter (L.limits limiter.old) (L.limits limiter.new) s (Command.New d t operands.now) (told result) store.new self.new }
+        ensures cause { OnErr (told result) ((s : State) → HoldsState H.KIND store.old self.old s → MayWant H.KIND s (Command.New d t operands.now)) }
         ensures same { IsSameStore store.old store.new }
     {
         let ty = VMSharedTypeIndex::new(t);
@@ -174,22 +176,22 @@ impl Runner {
         store: &mut Store<H, u64>,
         d: u16,
         n: u32,
-    ) -> Result<Reply, RunError>
-        ensures goes { (s : State) → HoldsState H.KIND store.old self.old s → GoesOn H.KIND s (Command.I31 d n) result store.new self.new }
+    ) -> Ending
+        ensures goes { (s : State) → HoldsState H.KIND store.old self.old s → GoesOn H.KIND s (Command.I31 d n) (told result) store.new self.new }
         ensures same { IsSameStore store.old store.new }
     {
         if self.registers.make_room(d).is_err() {
-            return Err(RunError::OutOfMemory);
+            return Ending::OutOfMemory;
         }
         match store.push_i31(I31::wrapping_u32(n)) {
             Ok(handle) => {
                 self.registers
                     .set(d, RawValue::Ref(GcClass::Any, Some(handle)));
-                Ok(Reply::Done)
+                Ending::Done
             }
-            Err(RootFault::RootsFull) => Ok(Reply::Refused(Refusal::RootsFull)),
+            Err(RootFault::RootsFull) => Ending::Refused(Refusal::RootsFull),
             // A push of a number fails in no other way than by want of memory.
-            Err(_) => Err(RunError::OutOfMemory),
+            Err(_) => Ending::OutOfMemory,
         }
     }
 }

@@ -2,6 +2,9 @@
 
 ghost use Rattle.std.specs.Prelude.{◌≡◌, false, true, Ok, OnOk, OnErr};
 ghost use Rattle.gc_model.specs.Holds.{HoldsKept};
+ghost use Rattle.gc_model.specs.Allocation.{Limits};
+ghost use Rattle.gc_script.specs.Built.{is_built};
+ghost use Rattle.gc_script.specs.Endings.{ended, is_quiet, told};
 ghost use Rattle.gc_script.specs.Slots.{new_runner};
 ghost use Rattle.gc_script.specs.State.{State, HoldsState};
 ghost use Rattle.gc_script.specs.Shapes.{is_collection};
@@ -10,6 +13,7 @@ ghost use Rattle.gc_script.specs.Wants.{MayWant};
 ghost use Rattle.gc_store.specs.Stores.{IsSameStore};
 
 use crate::built::is_built;
+use crate::ending::{Ending, is_quiet};
 use crate::objects::Wanted;
 use crate::registers::Registers;
 use gc_commands::{Command, Refusal, Reply};
@@ -92,6 +96,27 @@ impl Runner {
         if !is_built(command) {
             return Ok(Reply::Refused(Refusal::BadLine));
         }
+        if is_quiet(command) {
+            return self.run_quiet(store, limiter, command).told();
+        }
+        self.run_telling(store, command)
+    }
+
+    /// Runs a command that tells nothing, as `run_one` does, and answers how it ended, with no room for a reply.
+    #[inline(always)]
+    pub fn run_quiet<H: GcHeap, L: ResourceLimiter>(
+        &mut self,
+        store: &mut Store<H, u64>,
+        limiter: &mut L,
+        command: &Command,
+    ) -> Ending
+        requires { is_quiet command.now ≡ true }
+        ensures runs { (s : State) → HoldsState H.KIND store.old self.old s
+            → RunsOne H.KIND store.old.alloc_counter (L.limits limiter.old) (L.limits limiter.new) s command.now (told result) store.new self.new }
+        ensures memory { OnErr (told result) (TakesMemory command.now) }
+        ensures cause { OnErr (told result) ((s : State) → HoldsState H.KIND store.old self.old s → MayWant H.KIND s command.now) }
+        ensures same { IsSameStore store.old store.new }
+    {
         match command {
             Command::New { d, t, values } => {
                 self.make_struct(store, limiter, *d, *t, values.as_slice())
@@ -109,22 +134,91 @@ impl Runner {
                 self.make_bytes(store, limiter, *d, *t, bytes.as_slice())
             }
             Command::Host { d, n } => self.make_host(store, limiter, *d, *n),
-            Command::Gc => Ok(self.collect(store)),
-            Command::GcInc => Ok(self.collect_by_increments(store)),
-            Command::GcDrop => Ok(self.collect_dropped(store)),
             Command::Grow { n } => self.grow(store, limiter, *n),
-            _ => self.run_unasking(store, command),
+            _ => self.end_unasking(store, command),
         }
     }
 
-    /// Runs a command that asks no limiter and collects nothing.
+    /// Runs a command that tells nothing, asks no limiter and collects nothing.
     #[inline(always)]
-    fn run_unasking<H: GcHeap>(
+    fn end_unasking<H: GcHeap>(&mut self, store: &mut Store<H, u64>, command: &Command) -> Ending
+        requires asks { asks_nothing command.now ≡ true }
+        requires quiet { is_quiet command.now ≡ true }
+        ensures goes { (s : State) → HoldsState H.KIND store.old self.old s → GoesOn H.KIND s command.now (told result) store.new self.new }
+        ensures memory { OnErr (told result) (TakesMemory command.now) }
+        ensures cause { OnErr (told result) ((s : State) → HoldsState H.KIND store.old self.old s → MayWant H.KIND s command.now) }
+        ensures same { IsSameStore store.old store.new }
+    {
+        match command {
+            Command::I31 { d, n } => self.make_i31(store, *d, *n),
+            Command::Enter => self.enter(store),
+            Command::Push { slots } => self.push_frame(store, *slots),
+            Command::Own { o, r } => self.own(store, *o, *r),
+            Command::Root { d, o } => self.root(store, *d, *o),
+            _ => Ending::of(self.end_unfailing(store, command)),
+        }
+    }
+
+    /// Runs a command that tells nothing, asks no limiter, collects nothing and takes no memory.
+    #[inline(always)]
+    fn end_unfailing<H: GcHeap>(
+        &mut self,
+        store: &mut Store<H, u64>,
+        command: &Command,
+    ) -> Result<(), Refusal>
+        requires quiet { is_quiet command.now ≡ true }
+        requires asks { asks_nothing command.now ≡ true }
+        requires unfailing { takes_memory command.now ≡ false }
+        ensures goes { (s : State) → HoldsState H.KIND store.old self.old s → GoesOn H.KIND s command.now (Ok (ended result)) store.new self.new }
+        ensures same { IsSameStore store.old store.new }
+    {
+        match command {
+            Command::SetField { r, i, value } => self.write_field(store, *r, *i, value),
+            Command::SetElem { r, i, value } => self.write_element(store, *r, *i, value),
+            Command::Leave => self.leave(store),
+            Command::Pop => self.pop_frame(store),
+            Command::Store { k, r } => self.store_slot(store, *k, *r),
+            Command::SetGlobal { g, r } => self.set_global(store, *g, *r),
+            Command::Unroot { o } => self.unroot(store, *o),
+            Command::Throw { r } => self.throw(store, *r),
+            _ => unreachable!(),
+        }
+    }
+
+    /// Runs a command that tells something, as `run_one` does. No limiter is asked.
+    #[inline(always)]
+    pub fn run_telling<H: GcHeap>(
         &mut self,
         store: &mut Store<H, u64>,
         command: &Command,
     ) -> Result<Reply, RunError>
-        requires { asks_nothing command.now ≡ true }
+        requires built { is_built command.now ≡ true }
+        requires telling { is_quiet command.now ≡ false }
+        ensures runs { (limits : Limits) (s : State) → HoldsState H.KIND store.old self.old s
+            → RunsOne H.KIND store.old.alloc_counter limits limits s command.now result store.new self.new }
+        ensures memory { OnErr result (TakesMemory command.now) }
+        ensures cause { OnErr result ((s : State) → HoldsState H.KIND store.old self.old s → MayWant H.KIND s command.now) }
+        ensures kept { is_collection command.now ≡ true → OnOk result ((s : State) → HoldsState H.KIND store.old self.old s
+            → HoldsKept H.KIND store.new s.table) }
+        ensures same { IsSameStore store.old store.new }
+    {
+        match command {
+            Command::Gc => Ok(self.collect(store)),
+            Command::GcInc => Ok(self.collect_by_increments(store)),
+            Command::GcDrop => Ok(self.collect_dropped(store)),
+            _ => self.tell_unasking(store, command),
+        }
+    }
+
+    /// Runs a command that tells something and collects nothing.
+    #[inline(always)]
+    fn tell_unasking<H: GcHeap>(
+        &mut self,
+        store: &mut Store<H, u64>,
+        command: &Command,
+    ) -> Result<Reply, RunError>
+        requires asks { asks_nothing command.now ≡ true }
+        requires telling { is_quiet command.now ≡ false }
         ensures goes { (s : State) → HoldsState H.KIND store.old self.old s → GoesOn H.KIND s command.now result store.new self.new }
         ensures memory { OnErr result (TakesMemory command.now) }
         ensures cause { OnErr result ((s : State) → HoldsState H.KIND store.old self.old s → MayWant H.KIND s command.now) }
@@ -143,44 +237,31 @@ impl Runner {
             } => self.declare_array(store, *is_final, *supertype, elem),
             Command::Exn { params } => self.declare_exn(store, params.as_slice()),
             Command::ReadBytes { r, len } => self.read_bytes(store, *r, *len),
-            Command::I31 { d, n } => self.make_i31(store, *d, *n),
             Command::Field { r, i, into } => {
                 self.read_value(store, Wanted::WithFields, *r, *i, *into)
             }
             Command::Elem { r, i, into } => self.read_value(store, Wanted::Array, *r, *i, *into),
-            Command::Enter => self.enter(store),
-            Command::Push { slots } => self.push_frame(store, *slots),
             Command::Load { k, d } => self.load_slot(store, *k, *d),
             Command::GetGlobal { g, d } => self.get_global(store, *g, *d),
-            Command::Own { o, r } => self.own(store, *o, *r),
-            Command::Root { d, o } => self.root(store, *d, *o),
             Command::Take { d } => self.take(store, *d),
-            _ => Ok(self.run_unfailing(store, command)),
+            _ => Ok(self.tell_unfailing(store, command)),
         }
     }
 
-    /// Runs a command that asks no limiter, collects nothing and takes no memory.
+    /// Runs a command that tells something, collects nothing and takes no memory.
     // Each arm is the answer as it is: an `Ok` around it would be one more room for a reply in each arm, and all of them
     // are cleared whatever the command is.
     #[inline(always)]
-    fn run_unfailing<H: GcHeap>(&mut self, store: &mut Store<H, u64>, command: &Command) -> Reply
+    fn tell_unfailing<H: GcHeap>(&self, store: &Store<H, u64>, command: &Command) -> Reply
         requires asks { asks_nothing command.now ≡ true }
+        requires telling { is_quiet command.now ≡ false }
         requires unfailing { takes_memory command.now ≡ false }
-        ensures goes { (s : State) → HoldsState H.KIND store.old self.old s → GoesOn H.KIND s command.now (Ok result) store.new self.new }
-        ensures same { IsSameStore store.old store.new }
+        ensures { (s : State) → HoldsState H.KIND store.now self.now s → GoesOn H.KIND s command.now (Ok result) store.now self.now }
     {
         match command {
             Command::Len { r } => self.length(store, *r),
             Command::HostNumber { r } => self.host_number(store, *r),
-            Command::SetField { r, i, value } => self.write_field(store, *r, *i, value),
-            Command::SetElem { r, i, value } => self.write_element(store, *r, *i, value),
             Command::Eq { r, s } => self.compare(store, *r, *s),
-            Command::Leave => self.leave(store),
-            Command::Pop => self.pop_frame(store),
-            Command::Store { k, r } => self.store_slot(store, *k, *r),
-            Command::SetGlobal { g, r } => self.set_global(store, *g, *r),
-            Command::Unroot { o } => self.unroot(store, *o),
-            Command::Throw { r } => self.throw(store, *r),
             Command::Cap => self.capacity(store),
             _ => unreachable!(),
         }

@@ -74,9 +74,10 @@ pub(crate) fn give_values(
 ) -> Result<(), AllocError>
     ensures { OnOk result (values.new.items ≡ set_operands registers.now operands.now) }
 {
-    values.clear();
-    for operand in operands {
-        values.extend_from_slice(&[value_or_null(registers, operand)])?;
+    let null = RawValue::Ref(GcClass::Any, None);
+    values.resize(operands.len(), null)?;
+    for (index, operand) in operands.iter().enumerate() {
+        values[index] = value_or_null(registers, operand);
     }
     Ok(())
 }

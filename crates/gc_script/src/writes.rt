@@ -6,6 +6,7 @@ ghost use Rattle.gc_commands.specs.declared.command.Operand.{Operand};
 ghost use Rattle.gc_model.specs.Holds.{HoldsTable};
 ghost use Rattle.gc_model.specs.Table.{Table};
 ghost use Rattle.gc_policy.specs.Accounts.{Account, HoldsAccount};
+ghost use Rattle.gc_script.specs.Endings.{ended};
 ghost use Rattle.gc_script.specs.State.{State, HoldsState, RegisterStands};
 ghost use Rattle.gc_script.specs.Given.{held_operand, is_constant};
 ghost use Rattle.gc_script.specs.Run.{GoesOn};
@@ -18,7 +19,7 @@ ghost use Rattle.gc_store.specs.Values.{CanWrite, KeepsValue};
 use crate::objects::{NamedObject, Wanted, find_object, type_at};
 use crate::runner::Runner;
 use crate::values::{check_value, operand_value};
-use gc_commands::{Operand, Refusal, Reply};
+use gc_commands::{Operand, Refusal};
 use gc_heap::GcHeap;
 use gc_store::{RawValue, Store};
 use gc_types::FieldType;
@@ -64,16 +65,15 @@ fn check_write<H: GcHeap>(
 
 /// Writes a value that may be written and is no function or continuation. Takes no memory.
 #[inline(always)]
-fn write<H: GcHeap>(store: &mut Store<H, u64>, written: &Written, index: u32) -> Reply
+fn write<H: GcHeap>(store: &mut Store<H, u64>, written: &Written, index: u32)
     requires can { CanWrite ℕ H.KIND store.old written.now.object.root index written.now.value }
     requires plain { is_opaque written.now.value ≡ false }
-    ensures done { result ≡ Reply.Done }
     ensures writes { (t : Table ℕ) (a : Account) → HoldsAccount H.KIND store.old t a
         → KeepsValue H.KIND store.old store.new t a written.now.object.root index written.now.value }
     ensures same { IsSameStore store.old store.new }
 {
     match store.write_value(written.object.root, index, written.value) {
-        Ok(()) => Reply::Done,
+        Ok(()) => {}
         Err(_) => unreachable!(),
     }
 }
@@ -112,21 +112,24 @@ impl Runner {
         r: u16,
         i: u32,
         operand: &Operand,
-    ) -> Reply
+    ) -> Result<(), Refusal>
         ensures goes { (s : State) → HoldsState H.KIND store.old self.now s
-            → GoesOn H.KIND s (Command.SetField r i operand.now) (Ok result) store.new self.now }
+            → GoesOn H.KIND s (Command.SetField r i operand.now) (Ok (ended result)) store.new self.now }
         ensures same { IsSameStore store.old store.new }
     {
         let written = match self.find_written(store, Wanted::Struct, r, operand) {
             Ok(written) => written,
-            Err(why) => return Reply::Refused(why),
+            Err(why) => return Err(why),
         };
         if i >= written.object.count {
-            return Reply::Refused(Refusal::OutOfBounds);
+            return Err(Refusal::OutOfBounds);
         }
         match check_write(store, &written, i) {
-            Ok(()) => write(store, &written, i),
-            Err(why) => Reply::Refused(why),
+            Ok(()) => {
+                write(store, &written, i);
+                Ok(())
+            }
+            Err(why) => Err(why),
         }
     }
 
@@ -137,20 +140,21 @@ impl Runner {
         r: u16,
         i: u32,
         operand: &Operand,
-    ) -> Reply
-        ensures goes { (s : State) → HoldsState H.KIND store.old self.now s → GoesOn H.KIND s (Command.SetElem r i operand.now) (Ok result) store.new self.now }
+    ) -> Result<(), Refusal>
+        ensures goes { (s : State) → HoldsState H.KIND store.old self.now s → GoesOn H.KIND s (Command.SetElem r i operand.now) (Ok (ended result)) store.new self.now }
         ensures same { IsSameStore store.old store.new }
     {
         let written = match self.find_written(store, Wanted::Array, r, operand) {
             Ok(written) => written,
-            Err(why) => return Reply::Refused(why),
+            Err(why) => return Err(why),
         };
         if let Err(why) = check_write(store, &written, i) {
-            return Reply::Refused(why);
+            return Err(why);
         }
         if i >= written.object.count {
-            return Reply::Refused(Refusal::OutOfBounds);
+            return Err(Refusal::OutOfBounds);
         }
-        write(store, &written, i)
+        write(store, &written, i);
+        Ok(())
     }
 }

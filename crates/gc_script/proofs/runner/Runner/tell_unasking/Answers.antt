@@ -1,27 +1,13 @@
-use Rattle.std.proofs.Common.{◌≡◌, ℕ, refl}
-use Rattle.std.specs.Prelude.{Result, OnErr}
-use Rattle.gc_types.specs.declared.kind.Layouts.{Layouts}
-use Rattle.gc_model.specs.Stores.{StoreView}
-use Rattle.gc_commands.specs.declared.command.Command.{Command}
+use Rattle.std.proofs.Common.{refl}
 use Rattle.gc_commands.specs.declared.command.Command.TheVariants as command
-use Rattle.gc_commands.specs.declared.reply.Reply.{Reply}
-use Rattle.gc_script.specs.declared.runner.RunError.{RunError}
-use Rattle.gc_script.specs.Slots.{RunnerView}
-use Rattle.gc_script.specs.State.{State, HoldsState}
-use Rattle.gc_script.specs.Wants.{MayWant}
 use Rattle.gc_script.specs.Given.{is_array, has_fields}
 use Rattle.gc_script.specs.Shapes.{shape}
 use Rattle.gc_script.specs.Steps.{tests, reading_tests}
 use Rattle.gc_script.proofs.ResultLemmas.{on_err, on_any_err}
-use Rattle.gc_script.proofs.WantLemmas.{may_as, small_may}
+use Rattle.gc_script.proofs.WantLemmas.{may_as, may_by}
 use Rattle.gc_script.proofs.GoesLemmas.{goes_as}
 use Rattle.gc_script.proofs.TestLemmas.{goes_by}
-use Rattle.gc_script.proofs.runner.Runner.run_unasking.Goals as goal
-
--- why a command that is known fails is why it fails as the command that was given
-may_by : (layouts : Layouts) (store : StoreView ℕ) (runner : RunnerView) (r : Result Reply RunError) (c known : Command) → c ≡ known → OnErr r ((s : State) → HoldsState layouts store runner s → MayWant layouts s known)
-    → OnErr r ((s : State) → HoldsState layouts store runner s → MayWant layouts s c)
-may_by layouts store runner r c known is = on_err r (λ may s holds. may_as layouts s c known is (may s holds))
+use Rattle.gc_script.proofs.runner.Runner.tell_unasking.Goals as goal
 
 pub returns-in-Field-clause-goes : goal.returns-in-Field-clause-goes
 returns-in-Field-clause-goes g c s holds =
@@ -49,18 +35,6 @@ pub returns-in-Exn-clause-cause : goal.returns-in-Exn-clause-cause
 returns-in-Exn-clause-cause g c =
     on_any_err c.declare_exn.result (λ s holds. may_as g.H.GcHeap.KIND s c.args.command.now _ c.in-Exn.is (record { takes = refl; unrefused = tt }))
 
-pub returns-in-Enter-clause-cause : goal.returns-in-Enter-clause-cause
-returns-in-Enter-clause-cause g c =
-    on_any_err c.enter.result (λ s holds. may_as g.H.GcHeap.KIND s c.args.command.now _ c.in-Enter.is (record { takes = refl; unrefused = tt }))
-
-pub returns-in-Push-clause-cause : goal.returns-in-Push-clause-cause
-returns-in-Push-clause-cause g c =
-    on_any_err c.push_frame.result (λ s holds. may_as g.H.GcHeap.KIND s c.args.command.now _ c.in-Push.is (record { takes = refl; unrefused = tt }))
-
-pub returns-in-I31-clause-cause : goal.returns-in-I31-clause-cause
-returns-in-I31-clause-cause g c =
-    on_any_err c.make_i31.result (λ s holds. may_as g.H.GcHeap.KIND s c.args.command.now _ c.in-I31.is (small_may g.H.GcHeap.KIND s c.in-I31.d c.in-I31.n))
-
 pub returns-in-ReadBytes-clause-cause : goal.returns-in-ReadBytes-clause-cause
 returns-in-ReadBytes-clause-cause g c = may_by _ _ _ c.read_bytes.result _ _ c.in-ReadBytes.is c.read_bytes.ensures.cause
 
@@ -69,12 +43,6 @@ returns-in-Load-clause-cause g c = may_by _ _ _ c.load_slot.result _ _ c.in-Load
 
 pub returns-in-GetGlobal-clause-cause : goal.returns-in-GetGlobal-clause-cause
 returns-in-GetGlobal-clause-cause g c = may_by _ _ _ c.get_global.result _ _ c.in-GetGlobal.is c.get_global.ensures.cause
-
-pub returns-in-Own-clause-cause : goal.returns-in-Own-clause-cause
-returns-in-Own-clause-cause g c = may_by _ _ _ c.own.result _ _ c.in-Own.is c.own.ensures.cause
-
-pub returns-in-Root-clause-cause : goal.returns-in-Root-clause-cause
-returns-in-Root-clause-cause g c = may_by _ _ _ c.root.result _ _ c.in-Root.is c.root.ensures.cause
 
 pub returns-in-Take-clause-cause : goal.returns-in-Take-clause-cause
 returns-in-Take-clause-cause g c = may_by _ _ _ c.take.result _ _ c.in-Take.is c.take.ensures.cause
