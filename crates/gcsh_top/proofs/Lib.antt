@@ -14,3 +14,4 @@ mod ListLemmas
 pub mod FormAnswers
 pub mod StatusLaws
 pub mod ProgramLemmas
+pub mod WrittenLemmas

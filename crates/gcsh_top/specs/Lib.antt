@@ -6,6 +6,7 @@ pub mod Churn
 pub mod Words
 pub mod Statuses
 pub mod Chosen
+pub mod Written
 pub mod Runs
 pub mod Reports
 pub mod PathReports

@@ -6,6 +6,7 @@ ghost use Rattle.gcsh_top.specs.Churn.{link_fields, max_rounds, mutable_field, n
 use gc_commands::{FieldWord, FieldWords, HeapWord, Operands, StorageWord, ValueWord};
 use gc_script::{Command, Operand};
 use std::alloc::{AllocError, Global};
+use std::mem;
 
 /// A script may have this many rounds.
 pub const MAX_ROUNDS: u32 = 100_000;
@@ -78,12 +79,14 @@ impl Round {
         }
     }
 
-    /// `new`: makes its object.
-    pub(crate) fn make(&self, alloc: Global) -> Result<Command, AllocError>
+    /// `new`: makes its object. Its operands stand in the list that is handed in.
+    pub(crate) fn make(&self, alloc: Global, room: &mut Operands) -> Result<Command, AllocError>
         requires { self.now.number ≤ max_rounds }
         ensures { IfOk result (λ command. command ≡ Command.New 2 0 (named_by self.now.seed ∷ Operand.I32 (pos self.now.number) ∷ [])) }
     {
-        let mut values = Vec::with_capacity(alloc, 2)?;
+        let kept = mem::replace(room, Operands::from_vec(Vec::new(alloc)));
+        let mut values = kept.into_vec();
+        values.clear();
         values.extend_from_slice(&[self.named(), Operand::I32(self.number as i32)])?;
         Ok(Command::New {
             d: MADE,

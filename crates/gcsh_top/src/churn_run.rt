@@ -20,7 +20,7 @@ use crate::sink::Sink;
 use crate::status::Status;
 use crate::words::Form;
 use gc_heap::GcHeap;
-use gc_script::{Command, Reply, RunError, Runner, push_reply};
+use gc_script::{Command, Operands, Reply, RunError, Runner, keep_operands, push_reply};
 use gc_store::{PageLimit, Store};
 use gcsh_seeds::next_seed;
 use std::alloc::{AllocError, Global};
@@ -137,22 +137,25 @@ impl Churner {
         ensures same { IsSameStore store.old store.new }
     {
         let mut seed = rounds;
+        let mut room = Operands::from_vec(Vec::new(self.alloc));
         for done in 0..rounds {
             seed = next_seed(seed);
             let round = Round {
                 number: done + 1,
                 seed,
             };
-            self.run_round(store, round)?;
+            self.run_round(store, round, &mut room)?;
         }
         Ok(())
     }
 
-    /// Runs a round: its object names what it reads from one slot, and is kept in another.
+    /// Runs a round: its object names what it reads from one slot, and is kept in another. The list of its operands is used
+    /// again.
     fn run_round<H: GcHeap>(
         &mut self,
         store: &mut Store<H, u64>,
         round: Round,
+        room: &mut Operands,
     ) -> Result<(), RunError>
         requires number { round.number ≤ max_rounds }
         requires few { self.old.refused ≤ 5 * max_rounds }
@@ -166,10 +169,11 @@ impl Churner {
         self.run(store, &Command::Enter)?;
         let k = round.slot_read();
         self.run(store, &Command::Load { k, d: READ })?;
-        let Ok(make) = round.make(self.alloc) else {
+        let Ok(make) = round.make(self.alloc, room) else {
             return Err(RunError::OutOfMemory);
         };
         self.run(store, &make)?;
+        keep_operands(room, make);
         let k = round.slot_set();
         self.run(store, &Command::Store { k, r: MADE })?;
         self.run(store, &Command::Leave)?;

@@ -6,7 +6,9 @@ ghost use Rattle.gc_model.specs.Allocation.{Rose};
 ghost use Rattle.gc_script.specs.Cutting.{IsUnfinished, has_feed, kept_of};
 ghost use Rattle.gcsh_top.specs.Ends.{TookPart};
 ghost use Rattle.gcsh_top.specs.Runs.{BrokeOff, RanLine, RanLines, RanPiece, RanSome, StoppedPiece};
+ghost use Rattle.gcsh_top.specs.Written.{WroteAnswer};
 ghost use Rattle.gcsh_top.specs.Statuses.{status_of};
+ghost use Rattle.gc_script.specs.Endings.{told};
 ghost use Rattle.gc_script.specs.State.{State, HoldsState};
 ghost use Rattle.gc_script.specs.Session.{reply_line};
 ghost use Rattle.gc_store.specs.Stores.{IsSameStore};
@@ -17,7 +19,8 @@ use crate::status::Status;
 use crate::write::write_all;
 use gc_heap::GcHeap;
 use gc_script::{
-    Command, LineCutter, Refusal, Reply, RunError, Runner, fixed_line, parse_line, push_reply,
+    Command, Ending, LineCutter, Operands, Refusal, Reply, RunError, Runner, fixed_line, is_quiet,
+    keep_operands, parse_line_into, push_reply, refusal_line,
 };
 use gc_store::{ResourceLimiter, Store};
 use std::alloc::{AllocError, Global};
@@ -55,6 +58,26 @@ impl LineFault {
     }
 }
 
+/// The line of the reply to a command that was done and tells nothing.
+const DONE_LINE: &str = "ok\n";
+
+/// What is used again from line to line: the list of a command's operands, and the text of a reply.
+#[derive(Drop)]
+struct LineRoom {
+    operands: Operands,
+    text: String,
+}
+
+impl LineRoom {
+    /// One that has no room yet.
+    fn new(alloc: Global) -> LineRoom {
+        LineRoom {
+            operands: Operands::from_vec(Vec::new(alloc)),
+            text: String::new(alloc),
+        }
+    }
+}
+
 /// Writes a reply with its line feed. The text is a buffer that is used again.
 // In place: where the reply is known, what is left of it is the write of a constant.
 #[inline(always)]
@@ -88,6 +111,21 @@ fn write_line<K: Sink>(sink: &mut K, line: &str) -> Result<(), LineFault>
     }
 }
 
+/// Writes how a command ended that tells nothing, as the reply that it is.
+// In place: each reply is the write of a constant.
+#[inline(always)]
+fn write_ending<K: Sink>(sink: &mut K, ending: Ending) -> Result<(), LineFault>
+    ensures wrote { WroteAnswer (told ending) result (K.tells sink.old).held (K.tells sink.new).held }
+    ensures failed { IsErrOf result LineFault.Sink → Rose (K.tells sink.old).faults (K.tells sink.new).faults }
+    ensures faults { (K.tells sink.old).faults ≤ (K.tells sink.new).faults }
+{
+    match ending {
+        Ending::Done => write_line(sink, DONE_LINE),
+        Ending::Refused(why) => write_line(sink, refusal_line(why)),
+        Ending::OutOfMemory => Err(LineFault::Memory),
+    }
+}
+
 /// Runs a line, and writes its reply.
 fn run_line<H: GcHeap, L: ResourceLimiter, K: Sink>(
     alloc: Global,
@@ -95,7 +133,7 @@ fn run_line<H: GcHeap, L: ResourceLimiter, K: Sink>(
     store: &mut Store<H, u64>,
     limiter: &mut L,
     line: &[u8],
-    text: &mut String,
+    room: &mut LineRoom,
     sink: &mut K,
 ) -> Result<(), LineFault>
     ensures ran { OnOk result ((s : State) → HoldsState H.KIND store.old runner.old s
@@ -108,15 +146,20 @@ fn run_line<H: GcHeap, L: ResourceLimiter, K: Sink>(
     ensures faults { (K.tells sink.old).faults ≤ (K.tells sink.new).faults }
     ensures same { IsSameStore store.old store.new }
 {
-    let Ok(command) = parse_line(alloc, line) else {
+    let Ok(command) = parse_line_into(alloc, &mut room.operands, line) else {
         return Err(LineFault::Memory);
     };
     // A line that is no command has the same reply everywhere, and changes nothing.
     if let Command::Bad = command {
-        return write_reply(text, sink, &Reply::Refused(Refusal::BadLine));
+        return write_ending(sink, Ending::Refused(Refusal::BadLine));
     }
-    match runner.run_one(store, limiter, &command) {
-        Ok(reply) => write_reply(text, sink, &reply),
+    if is_quiet(&command) {
+        let ending = runner.run_quiet(store, limiter, &command);
+        keep_operands(&mut room.operands, command);
+        return write_ending(sink, ending);
+    }
+    match runner.run_telling(store, &command) {
+        Ok(reply) => write_reply(&mut room.text, sink, &reply),
         Err(RunError::OutOfMemory) => Err(LineFault::Memory),
     }
 }
@@ -128,7 +171,7 @@ fn run_kept<H: GcHeap, L: ResourceLimiter, K: Sink>(
     store: &mut Store<H, u64>,
     limiter: &mut L,
     kept: &LineCutter,
-    text: &mut String,
+    room: &mut LineRoom,
     sink: &mut K,
 ) -> Result<(), LineFault>
     ensures ran { OnOk result ((line : List ℕ) (s : State) → kept.now ≡ kept_of line → HoldsState H.KIND store.old runner.old s
@@ -142,9 +185,9 @@ fn run_kept<H: GcHeap, L: ResourceLimiter, K: Sink>(
     ensures same { IsSameStore store.old store.new }
 {
     if kept.is_long() {
-        return write_reply(text, sink, &Reply::Refused(Refusal::BadLine));
+        return write_ending(sink, Ending::Refused(Refusal::BadLine));
     }
-    run_line(alloc, runner, store, limiter, kept.line(), text, sink)
+    run_line(alloc, runner, store, limiter, kept.line(), room, sink)
 }
 
 /// Runs each line that ends in the next piece of an input, and writes its reply as soon as the line is
@@ -169,19 +212,19 @@ fn run_lines<H: GcHeap, L: ResourceLimiter, K: Sink>(
     ensures faults { (K.tells sink.old).faults ≤ (K.tells sink.new).faults }
     ensures same { IsSameStore store.old store.new }
 {
-    let mut text = String::new(alloc);
+    let mut room = LineRoom::new(alloc);
     let mut rest = piece;
     let mut replied = false;
     while !rest.is_empty() {
         if let Some(line) = cutter.whole_line(rest) {
-            run_line(alloc, runner, store, limiter, line, &mut text, sink)?;
+            run_line(alloc, runner, store, limiter, line, &mut room, sink)?;
             rest = &rest[line.len() + 1..];
             replied = true;
         } else {
             let (taken, is_ended) = cutter.feed(rest)?;
             rest = &rest[taken..];
             if is_ended {
-                run_kept(alloc, runner, store, limiter, cutter, &mut text, sink)?;
+                run_kept(alloc, runner, store, limiter, cutter, &mut room, sink)?;
                 cutter.clear();
                 replied = true;
             }
@@ -242,8 +285,8 @@ pub(crate) fn run_last<H: GcHeap, L: ResourceLimiter, K: Sink>(
     if cutter.held() == 0 {
         return flush(sink);
     }
-    let mut text = String::new(alloc);
-    run_kept(alloc, runner, store, limiter, cutter, &mut text, sink)?;
+    let mut room = LineRoom::new(alloc);
+    run_kept(alloc, runner, store, limiter, cutter, &mut room, sink)?;
     flush(sink)
 }
 

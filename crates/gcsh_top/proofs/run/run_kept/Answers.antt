@@ -7,11 +7,12 @@ use Rattle.gc_script.proofs.GoesLemmas.{unbuilt_runs}
 use Rattle.gc_script.proofs.ResultLemmas.{on_err, on_ok}
 use Rattle.gcsh_top.proofs.RunLemmas.{broke_as, ran_as}
 use Rattle.gcsh_top.proofs.PieceLemmas.{kept_whole, long_line}
+use Rattle.gcsh_top.proofs.WrittenLemmas.{wrote_err, wrote_ok}
 use Rattle.gcsh_top.proofs.run.run_kept.Goals as goal
 
 pub returns-then-is_long-clause-ran : goal.returns-then-is_long-clause-ran
 returns-then-is_long-clause-ran g c =
-    on_ok c.write_reply.result
+    on_ok c.write_ending.result
     (λ replied line s is_kept holds. record {
       command = command.Bad;
       answer = reply.Refused refusal.BadLine;
@@ -20,14 +21,14 @@ returns-then-is_long-clause-ran g c =
       kept = λ is. absurd (cc);
       replied = replied;
     })
-    c.write_reply.ensures.replied
+    (wrote_ok (reply.Refused refusal.BadLine) _ _ c.write_ending.result c.write_ending.ensures.wrote)
 
 pub returns-then-is_long-clause-broke_off : goal.returns-then-is_long-clause-broke_off
 returns-then-is_long-clause-broke_off g c =
-    on_err c.write_reply.result
+    on_err c.write_ending.result
     (λ part line s is_kept holds. not_written {limits' = g.L.ResourceLimiter.limits c.args.limiter.now} {command = command.Bad} (long_line c.args.kept.now c.is_long.result line c.is_long.ensures c.if-is_long.true is_kept)
     (unbuilt_runs _ _ _ s command.Bad _ _ holds refl) part)
-    c.write_reply.ensures.part
+    (wrote_err (reply.Refused refusal.BadLine) _ _ c.write_ending.result c.write_ending.ensures.wrote)
 
 pub returns-clause-ran : goal.returns-clause-ran
 returns-clause-ran g c =
