@@ -1,14 +1,15 @@
 //! Runs the lines of an input as they come.
 
-ghost use Rattle.std.specs.Prelude.{◌≡◌, ◌≤◌, ◌⊎◌, ◌++◌, ℕ, false, IfOk, IsErrOf, IsTrue, List, OnErr, OnOk};
+ghost use Rattle.std.specs.Prelude.{◌≡◌, ◌≤◌, ◌⊎◌, ◌++◌, ℕ, true, false, IfOk, IsErrOf, IsTrue, List, OnErr, OnOk};
 ghost use Rattle.gc_commands.specs.Spelling.{IsCommandOf};
-ghost use Rattle.gc_model.specs.Allocation.{Rose};
 ghost use Rattle.gc_script.specs.Cutting.{IsUnfinished, has_feed, kept_of};
 ghost use Rattle.gcsh_top.specs.Ends.{TookPart};
 ghost use Rattle.gcsh_top.specs.Runs.{BrokeOff, RanLine, RanLines, RanPiece, RanSome, StoppedPiece};
 ghost use Rattle.gcsh_top.specs.Written.{WroteAnswer};
 ghost use Rattle.gcsh_top.specs.Statuses.{status_of};
-ghost use Rattle.gc_script.specs.Endings.{told};
+ghost use Rattle.gc_model.specs.Allocation.{Limits, Rose};
+ghost use Rattle.gc_script.specs.Built.{is_built};
+ghost use Rattle.gc_script.specs.Endings.{is_quiet, told};
 ghost use Rattle.gc_script.specs.State.{State, HoldsState};
 ghost use Rattle.gc_script.specs.Session.{reply_line};
 ghost use Rattle.gc_store.specs.Stores.{IsSameStore};
@@ -126,6 +127,31 @@ fn write_ending<K: Sink>(sink: &mut K, ending: Ending) -> Result<(), LineFault>
     }
 }
 
+/// Runs a command that tells something, and writes its reply.
+// Not in place: else each line would clear the rooms of replies, also where its command tells nothing.
+fn tell<H: GcHeap, K: Sink>(
+    runner: &mut Runner,
+    store: &mut Store<H, u64>,
+    command: &Command,
+    text: &mut String,
+    sink: &mut K,
+) -> Result<(), LineFault>
+    requires built { is_built command.now ≡ true }
+    requires telling { is_quiet command.now ≡ false }
+    ensures ran { (limits : Limits) → OnOk result ((line : List ℕ) (s : State) → IsCommandOf line command.now → HoldsState H.KIND store.old runner.old s
+        → RanLine H.KIND store.old.alloc_counter limits limits s line store.new runner.new (K.tells sink.old).held (K.tells sink.new).held) }
+    ensures broke_off { (limits : Limits) → OnErr result ((line : List ℕ) (s : State) → IsCommandOf line command.now → HoldsState H.KIND store.old runner.old s
+        → BrokeOff H.KIND store.old.alloc_counter limits s line store.new runner.new (K.tells sink.old).held (K.tells sink.new).held) }
+    ensures failed { IsErrOf result LineFault.Sink → Rose (K.tells sink.old).faults (K.tells sink.new).faults }
+    ensures faults { (K.tells sink.old).faults ≤ (K.tells sink.new).faults }
+    ensures same { IsSameStore store.old store.new }
+{
+    match runner.run_telling(store, command) {
+        Ok(reply) => write_reply(text, sink, &reply),
+        Err(RunError::OutOfMemory) => Err(LineFault::Memory),
+    }
+}
+
 /// Runs a line, and writes its reply.
 fn run_line<H: GcHeap, L: ResourceLimiter, K: Sink>(
     alloc: Global,
@@ -158,10 +184,7 @@ fn run_line<H: GcHeap, L: ResourceLimiter, K: Sink>(
         keep_operands(&mut room.operands, command);
         return write_ending(sink, ending);
     }
-    match runner.run_telling(store, &command) {
-        Ok(reply) => write_reply(&mut room.text, sink, &reply),
-        Err(RunError::OutOfMemory) => Err(LineFault::Memory),
-    }
+    tell(runner, store, &command, &mut room.text, sink)
 }
 
 /// Runs the line of which that is kept, and writes its reply.

@@ -4,12 +4,10 @@ use Rattle.gc_commands.specs.declared.reply.Reply.TheVariants as reply
 use Rattle.gc_commands.specs.declared.reply.Refusal.TheVariants as refusal
 use Rattle.gc_script.specs.Built.{is_built}
 use Rattle.gc_script.specs.Endings.{told}
-use Rattle.gcsh_top.specs.Runs.{not_run, not_written}
+use Rattle.gcsh_top.specs.Runs.{not_written}
 use Rattle.gc_script.proofs.EndingLemmas.{quiet_collects}
 use Rattle.gc_script.proofs.GoesLemmas.{collection_built, unbuilt_runs}
 use Rattle.gc_script.proofs.ResultLemmas.{on_ok, on_err}
-use Rattle.gc_script.proofs.KeptLemmas.{kept_after}
-use Rattle.gcsh_top.proofs.RunLemmas.{keeps_same}
 use Rattle.gcsh_top.proofs.WrittenLemmas.{line_broke, line_ran, wrote_err, wrote_ok}
 use Rattle.gcsh_top.proofs.run.run_line.Goals as goal
 
@@ -42,18 +40,8 @@ returns-then-is_quiet-clause-broke_off g c =
     line_broke _ _ _ _ c.args.line.now c.in-Ok.command c.args.store.now _ c.args.runner.now _ _ _ (told c.run_quiet-ending.result) c.write_ending-then-is_quiet.result c.in-Ok.ensures c.run_quiet-ending.ensures.runs
     c.write_ending-then-is_quiet.ensures.wrote
 
-pub returns-in-Ok-run_telling-clause-ran : goal.returns-in-Ok-run_telling-clause-ran
-returns-in-Ok-run_telling-clause-ran g c =
-    let limits = g.L.ResourceLimiter.limits c.args.limiter.now in
-    on_ok c.write_reply.result
-    (λ replied s holds. record { command = c.in-Ok.command; answer = c.in-Ok-run_telling.reply; is_command = c.in-Ok.ensures; ran = c.in-Ok-run_telling.ensures.runs limits s holds; kept = λ is. kept_after _ _ _ _ s _ _ (c.in-Ok-run_telling.ensures.runs limits s holds) is (c.in-Ok-run_telling.ensures.kept is s holds); replied = replied })
-    c.write_reply.ensures.replied
-
-pub returns-in-Ok-run_telling-clause-broke_off : goal.returns-in-Ok-run_telling-clause-broke_off
-returns-in-Ok-run_telling-clause-broke_off g c =
-    on_err c.write_reply.result
-    (λ part s holds. not_written c.in-Ok.ensures (c.in-Ok-run_telling.ensures.runs (g.L.ResourceLimiter.limits c.args.limiter.now) s holds) part)
-    c.write_reply.ensures.part
+pub returns-clause-ran : goal.returns-clause-ran
+returns-clause-ran g c = on_ok c.tell.result (λ ran s holds. ran c.args.line.now s c.in-Ok.ensures holds) (c.tell.ensures.ran (g.L.ResourceLimiter.limits c.args.limiter.now))
 
 pub returns-clause-broke_off : goal.returns-clause-broke_off
-returns-clause-broke_off g c s holds = not_run c.in-Ok.ensures (c.in-Err-OutOfMemory.ensures.runs (g.L.ResourceLimiter.limits c.args.limiter.now) s holds) (keeps_same _)
+returns-clause-broke_off g c = on_err c.tell.result (λ broke s holds. broke c.args.line.now s c.in-Ok.ensures holds) (c.tell.ensures.broke_off (g.L.ResourceLimiter.limits c.args.limiter.now))

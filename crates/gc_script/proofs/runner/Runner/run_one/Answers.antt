@@ -1,8 +1,7 @@
-use Rattle.std.proofs.Common.{◌≡◌, true, sym, ◌∙◌, subst}
+use Rattle.std.proofs.Common.{sym, ◌∙◌, subst}
 use Rattle.std.specs.Prelude.{OnErr, Result}
 use Rattle.gc_commands.specs.declared.reply.Reply.{Reply}
 use Rattle.gc_script.specs.declared.runner.RunError.{RunError}
-use Rattle.gc_script.specs.Endings.{is_quiet}
 use Rattle.gc_script.specs.Run.{RunsOne, TakesMemory}
 use Rattle.gc_script.specs.State.{State, HoldsState}
 use Rattle.gc_script.specs.Wants.{MayWant}

@@ -1,4 +1,4 @@
-use Rattle.std.proofs.Common.{sym, ◌∙◌, refl, subst}
+use Rattle.std.proofs.Common.{◌∙◌, refl}
 use Rattle.gc_commands.specs.declared.command.Command.TheVariants as command
 use Rattle.gc_commands.specs.declared.reply.Refusal.TheVariants as refusal
 use Rattle.gc_script.specs.declared.objects.Wanted.TheVariants as wanted
