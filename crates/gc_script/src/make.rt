@@ -162,7 +162,8 @@ impl Runner {
         operands: &[Operand],
     ) -> Ending
         ensures runs { (s : State) → HoldsState H.KIND store.old self.old s
-            → RunsOne H.KIND store.old.alloc_counter (L.limits limiter.old) (L.limits limiter.new) s (Command.New d t operands.now) (told result) store.new self.new }
+            → RunsOne H.KIND store.old.alloc_counter (L.limits limiter.old) (L.limits limiter.new) s
+            (Command.New d t operands.now) (told result) store.new self.new }
         ensures cause { OnErr (told result) ((s : State) → HoldsState H.KIND store.old self.old s → MayWant H.KIND s (Command.New d t operands.now)) }
         ensures same { IsSameStore store.old store.new }
     {

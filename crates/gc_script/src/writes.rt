@@ -141,7 +141,8 @@ impl Runner {
         i: u32,
         operand: &Operand,
     ) -> Result<(), Refusal>
-        ensures goes { (s : State) → HoldsState H.KIND store.old self.now s → GoesOn H.KIND s (Command.SetElem r i operand.now) (Ok (ended result)) store.new self.now }
+        ensures goes { (s : State) → HoldsState H.KIND store.old self.now s
+            → GoesOn H.KIND s (Command.SetElem r i operand.now) (Ok (ended result)) store.new self.now }
         ensures same { IsSameStore store.old store.new }
     {
         let written = match self.find_written(store, Wanted::Array, r, operand) {
