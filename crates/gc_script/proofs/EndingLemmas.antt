@@ -6,17 +6,17 @@ use Rattle.gc_commands.specs.declared.command.Command.TheVariants.{Bad, Struct, 
 use Rattle.gc_commands.specs.declared.command.Operand.{Operand}
 use Rattle.gc_commands.specs.declared.reply.Refusal.{Refusal}
 use Rattle.gc_script.specs.Built.{is_built}
-use Rattle.gc_script.specs.Endings.{ended, ending_of, is_quiet, told}
+use Rattle.gc_script.specs.Endings.{answer_of, ended, ending_of, is_quiet}
 use Rattle.gc_script.specs.Run.{asks_nothing}
 use Rattle.gc_script.specs.Shapes.{is_collection}
 
 -- what takes no memory is answered by its reply
-pub told_ended : (r : Result (Unit {0}) Refusal) → told (ending_of r) ≡ Ok (ended r)
-told_ended (Ok done) = refl
-told_ended (Err why) = refl
+pub answer_ended : (r : Result (Unit {0}) Refusal) → answer_of (ending_of r) ≡ Ok (ended r)
+answer_ended (Ok done) = refl
+answer_ended (Err why) = refl
 
 -- and never wants any
-pub never_wants : (P : Type 0) (r : Result (Unit {0}) Refusal) → OnErr (told (ending_of r)) P
+pub never_wants : (P : Type 0) (r : Result (Unit {0}) Refusal) → OnErr (answer_of (ending_of r)) P
 never_wants P (Ok done) = tt
 never_wants P (Err why) = tt
 

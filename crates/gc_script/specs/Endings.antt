@@ -1,4 +1,4 @@
--- Commands that tell nothing but that they are done, and how they end.
+-- Commands whose reply is that they are done, or a refusal, and how they end.
 use Rattle.std.specs.Prelude.{Bool, true, false, Result, Ok, Err}
 use Rattle.gc_commands.specs.declared.command.Command.{Command}
 use Rattle.gc_commands.specs.declared.command.Command.TheVariants.{New, NewExn, NewArr, Fixed, NewBytes, Host, I31, SetField, SetElem, Enter, Leave, Push, Pop, Store, SetGlobal, Own, Root, Unroot, Throw, Grow}
@@ -34,11 +34,11 @@ is_quiet (Throw r) = true
 is_quiet (Grow n) = true
 is_quiet _ = false
 
--- the same as any command is answered
-abbrev pub told : Ending → Result Reply RunError
-told ending.Done = Ok reply.Done
-told (ending.Refused why) = Ok (reply.Refused why)
-told ending.OutOfMemory = Err error.OutOfMemory
+-- the answer to any command that it stands for
+abbrev pub answer_of : Ending → Result Reply RunError
+answer_of ending.Done = Ok reply.Done
+answer_of (ending.Refused why) = Ok (reply.Refused why)
+answer_of ending.OutOfMemory = Err error.OutOfMemory
 
 -- the reply to such a command that takes no memory
 abbrev pub ended : Result (Unit {0}) Refusal → Reply

@@ -2,7 +2,7 @@
 
 ghost use Rattle.std.specs.Prelude.{◌≡◌, OnErr};
 ghost use Rattle.gc_commands.specs.declared.command.Command.TheVariants as Command;
-ghost use Rattle.gc_script.specs.Endings.{told};
+ghost use Rattle.gc_script.specs.Endings.{answer_of};
 ghost use Rattle.gc_script.specs.State.{State, HoldsState};
 ghost use Rattle.gc_script.specs.Run.{RunsOne};
 ghost use Rattle.gc_script.specs.Wants.{MayWant};
@@ -32,8 +32,9 @@ impl Runner {
     ) -> Ending
         ensures runs { (s : State) → HoldsState H.KIND store.old self.old s
             → RunsOne H.KIND store.old.alloc_counter (L.limits limiter.old) (L.limits limiter.new) s
-            (Command.NewArr d t len operand.now) (told result) store.new self.new }
-        ensures cause { OnErr (told result) ((s : State) → HoldsState H.KIND store.old self.old s → MayWant H.KIND s (Command.NewArr d t len operand.now)) }
+            (Command.NewArr d t len operand.now) (answer_of result) store.new self.new }
+        ensures cause { OnErr (answer_of result) ((s : State) → HoldsState H.KIND store.old self.old s
+            → MayWant H.KIND s (Command.NewArr d t len operand.now)) }
         ensures same { IsSameStore store.old store.new }
     {
         let ty = VMSharedTypeIndex::new(t);
@@ -69,8 +70,8 @@ impl Runner {
     ) -> Ending
         ensures runs { (s : State) → HoldsState H.KIND store.old self.old s
             → RunsOne H.KIND store.old.alloc_counter (L.limits limiter.old) (L.limits limiter.new) s
-            (Command.Fixed d t operands.now) (told result) store.new self.new }
-        ensures cause { OnErr (told result) ((s : State) → HoldsState H.KIND store.old self.old s → MayWant H.KIND s (Command.Fixed d t operands.now)) }
+            (Command.Fixed d t operands.now) (answer_of result) store.new self.new }
+        ensures cause { OnErr (answer_of result) ((s : State) → HoldsState H.KIND store.old self.old s → MayWant H.KIND s (Command.Fixed d t operands.now)) }
         ensures same { IsSameStore store.old store.new }
     {
         let ty = VMSharedTypeIndex::new(t);
@@ -113,8 +114,8 @@ impl Runner {
     ) -> Ending
         ensures runs { (s : State) → HoldsState H.KIND store.old self.old s
             → RunsOne H.KIND store.old.alloc_counter (L.limits limiter.old) (L.limits limiter.new) s
-            (Command.NewBytes d t bytes.now) (told result) store.new self.new }
-        ensures cause { OnErr (told result) ((s : State) → HoldsState H.KIND store.old self.old s → MayWant H.KIND s (Command.NewBytes d t bytes.now)) }
+            (Command.NewBytes d t bytes.now) (answer_of result) store.new self.new }
+        ensures cause { OnErr (answer_of result) ((s : State) → HoldsState H.KIND store.old self.old s → MayWant H.KIND s (Command.NewBytes d t bytes.now)) }
         ensures same { IsSameStore store.old store.new }
     {
         let ty = VMSharedTypeIndex::new(t);

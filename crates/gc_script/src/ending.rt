@@ -1,12 +1,12 @@
-//! How commands end that tell nothing.
+//! How commands end whose reply is `ok` or a refusal.
 
 ghost use Rattle.std.specs.Prelude.{◌≡◌};
-ghost use Rattle.gc_script.specs.Endings.{ending_of, is_quiet, told};
+ghost use Rattle.gc_script.specs.Endings.{answer_of, ending_of, is_quiet};
 
 use crate::runner::RunError;
 use gc_commands::{Command, Refusal, Reply};
 
-/// How a command ended that tells nothing: it was done, it is refused, or memory is wanting.
+/// How a command ended that tells nothing beside: it was done, it is refused, or memory is wanting.
 #[derive(Clone, Copy, Debug, PartialEq, Eq)]
 pub enum Ending {
     Done,
@@ -26,10 +26,10 @@ impl Ending {
         }
     }
 
-    /// The same as any command is answered.
+    /// The answer to any command that it stands for.
     #[inline(always)]
-    pub fn told(self) -> Result<Reply, RunError>
-        ensures { result ≡ told self }
+    pub fn answer(self) -> Result<Reply, RunError>
+        ensures { result ≡ answer_of self }
     {
         match self {
             Ending::Done => Ok(Reply::Done),
@@ -39,7 +39,7 @@ impl Ending {
     }
 }
 
-/// Whether a command is one that tells nothing but that it is done.
+/// Whether a command tells nothing: its reply is `ok` or a refusal, as the one that `throw` always has.
 #[inline(always)]
 pub fn is_quiet(command: &Command) -> bool
     ensures { result ≡ is_quiet command.now }

@@ -2,7 +2,7 @@
 
 ghost use Rattle.std.specs.Prelude.{◌≡◌, Ok, OnErr};
 ghost use Rattle.gc_commands.specs.declared.command.Command.TheVariants as Command;
-ghost use Rattle.gc_script.specs.Endings.{ended, told};
+ghost use Rattle.gc_script.specs.Endings.{answer_of, ended};
 ghost use Rattle.gc_script.specs.State.{State, HoldsState};
 ghost use Rattle.gc_script.specs.Run.{RunsOne, GoesOn};
 ghost use Rattle.gc_script.specs.Wants.{MayWant};
@@ -52,8 +52,9 @@ impl Runner {
     ) -> Ending
         ensures runs { (s : State) → HoldsState H.KIND store.old self.old s
             → RunsOne H.KIND store.old.alloc_counter (L.limits limiter.old) (L.limits limiter.new) s
-            (Command.NewExn d t tag operands.now) (told result) store.new self.new }
-        ensures cause { OnErr (told result) ((s : State) → HoldsState H.KIND store.old self.old s → MayWant H.KIND s (Command.NewExn d t tag operands.now)) }
+            (Command.NewExn d t tag operands.now) (answer_of result) store.new self.new }
+        ensures cause { OnErr (answer_of result) ((s : State) → HoldsState H.KIND store.old self.old s
+            → MayWant H.KIND s (Command.NewExn d t tag operands.now)) }
         ensures same { IsSameStore store.old store.new }
     {
         let ty = VMSharedTypeIndex::new(t);
@@ -64,7 +65,8 @@ impl Runner {
         self.make_fields(store, limiter, d, Place::Exn(ty, tag), operands)
     }
 
-    /// Throws the exception in register `r`: it is pending afterwards, in place of one that was. Takes no memory.
+    /// Throws the exception in register `r`: it is pending afterwards, in place of one that was, which `ThrownException` tells.
+    /// Never Ok. Takes no memory.
     pub(crate) fn throw<H: GcHeap>(&self, store: &mut Store<H, u64>, r: u16) -> Result<(), Refusal>
         ensures goes { (s : State) → HoldsState H.KIND store.old self.now s → GoesOn H.KIND s (Command.Throw r) (Ok (ended result)) store.new self.now }
         ensures same { IsSameStore store.old store.new }

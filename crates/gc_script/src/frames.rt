@@ -2,7 +2,7 @@
 
 ghost use Rattle.std.specs.Prelude.{◌≡◌, Ok, OnErr};
 ghost use Rattle.gc_commands.specs.declared.command.Command.TheVariants as Command;
-ghost use Rattle.gc_script.specs.Endings.{ended, told};
+ghost use Rattle.gc_script.specs.Endings.{answer_of, ended};
 ghost use Rattle.gc_script.specs.State.{State, HoldsState};
 ghost use Rattle.gc_script.specs.Run.{GoesOn};
 ghost use Rattle.gc_script.specs.Wants.{MayWant};
@@ -19,7 +19,7 @@ impl Runner {
     /// Opens a frame of that many slots.
     #[inline(always)]
     pub(crate) fn push_frame<H: GcHeap>(&self, store: &mut Store<H, u64>, slots: u16) -> Ending
-        ensures goes { (s : State) → HoldsState H.KIND store.old self.now s → GoesOn H.KIND s (Command.Push slots) (told result) store.new self.now }
+        ensures goes { (s : State) → HoldsState H.KIND store.old self.now s → GoesOn H.KIND s (Command.Push slots) (answer_of result) store.new self.now }
         ensures same { IsSameStore store.old store.new }
     {
         match store.push_frame(u32::from(slots)) {

@@ -2,7 +2,7 @@
 
 ghost use Rattle.std.specs.Prelude.{◌≡◌, Ok};
 ghost use Rattle.gc_commands.specs.declared.command.Command.TheVariants as Command;
-ghost use Rattle.gc_script.specs.Endings.{told};
+ghost use Rattle.gc_script.specs.Endings.{answer_of};
 ghost use Rattle.gc_script.specs.State.{State, HoldsState};
 ghost use Rattle.gc_script.specs.Run.{RunsOne, GoesOn};
 ghost use Rattle.gc_store.specs.Stores.{IsSameStore};
@@ -22,7 +22,8 @@ impl Runner {
         bytes: u64,
     ) -> Ending
         ensures runs { (s : State) → HoldsState H.KIND store.old self.now s
-            → RunsOne H.KIND store.old.alloc_counter (L.limits limiter.old) (L.limits limiter.new) s (Command.Grow bytes) (told result) store.new self.now }
+            → RunsOne H.KIND store.old.alloc_counter (L.limits limiter.old) (L.limits limiter.new) s
+            (Command.Grow bytes) (answer_of result) store.new self.now }
         ensures same { IsSameStore store.old store.new }
     {
         match store.gc_heap_grow(limiter, bytes) {

@@ -2,7 +2,7 @@
 
 ghost use Rattle.std.specs.Prelude.{Ok};
 ghost use Rattle.gc_commands.specs.declared.command.Command.TheVariants as Command;
-ghost use Rattle.gc_script.specs.Endings.{told};
+ghost use Rattle.gc_script.specs.Endings.{answer_of};
 ghost use Rattle.gc_script.specs.State.{State, HoldsState};
 ghost use Rattle.gc_script.specs.Run.{RunsOne, GoesOn};
 ghost use Rattle.gc_store.specs.Stores.{IsSameStore};
@@ -24,7 +24,7 @@ impl Runner {
         n: u64,
     ) -> Ending
         ensures runs { (s : State) → HoldsState H.KIND store.old self.old s
-            → RunsOne H.KIND store.old.alloc_counter (L.limits limiter.old) (L.limits limiter.new) s (Command.Host d n) (told result) store.new self.new }
+            → RunsOne H.KIND store.old.alloc_counter (L.limits limiter.old) (L.limits limiter.new) s (Command.Host d n) (answer_of result) store.new self.new }
         ensures same { IsSameStore store.old store.new }
     {
         if self.registers.make_room(d).is_err() {

@@ -5,7 +5,7 @@ ghost use Rattle.std.specs.Option.{option_map};
 ghost use Rattle.gc_commands.specs.declared.command.Command.TheVariants as Command;
 ghost use Rattle.gc_model.specs.Sizes.{exn_fields_at};
 ghost use Rattle.gc_model.specs.Values.{Object};
-ghost use Rattle.gc_script.specs.Endings.{told};
+ghost use Rattle.gc_script.specs.Endings.{answer_of};
 ghost use Rattle.gc_script.specs.Requested.{class_of, type_of, requested, requested_fields, requested_tests, IsPlainRequest};
 ghost use Rattle.gc_script.specs.Slots.{RunnerRest, with_registers};
 ghost use Rattle.gc_script.specs.State.{State, HoldsState, visible};
@@ -85,7 +85,7 @@ pub(crate) fn place<H: GcHeap, L: ResourceLimiter>(
     ensures runs { (s : State) (rest : RunnerRest) (object : State → Object ℕ) → HoldsState H.KIND store.old (with_registers registers.old rest) s
         → IsObjectOf store.old s.table request contents.entry (object (visible s))
         → RunsOn H.KIND store.old.alloc_counter (L.limits limiter.old) (L.limits limiter.new) s (making d (class_of request) object)
-        (heap_tests H.KIND s (object (visible s))) (told result) store.new (with_registers registers.new rest) }
+        (heap_tests H.KIND s (object (visible s))) (answer_of result) store.new (with_registers registers.new rest) }
     ensures same { IsSameStore store.old store.new }
 {
     stores_hold_tables(store);
@@ -120,8 +120,9 @@ impl Runner {
     ) -> Ending
         ensures runs { (s : State) → HoldsState H.KIND store.old self.old s
             → RunsOn H.KIND store.old.alloc_counter (L.limits limiter.old) (L.limits limiter.new) s
-            (making d (class_of request) (requested request operands.now)) (requested_tests H.KIND s request operands.now) (told result) store.new self.new }
-        ensures cause { OnErr (told result) ((s : State) → HoldsState H.KIND store.old self.old s
+            (making d (class_of request) (requested request operands.now)) (requested_tests H.KIND s request operands.now)
+            (answer_of result) store.new self.new }
+        ensures cause { OnErr (answer_of result) ((s : State) → HoldsState H.KIND store.old self.old s
             → IsUnrefused (first_failing (requested_tests H.KIND s request operands.now))) }
         ensures same { IsSameStore store.old store.new }
     {
@@ -163,8 +164,8 @@ impl Runner {
     ) -> Ending
         ensures runs { (s : State) → HoldsState H.KIND store.old self.old s
             → RunsOne H.KIND store.old.alloc_counter (L.limits limiter.old) (L.limits limiter.new) s
-            (Command.New d t operands.now) (told result) store.new self.new }
-        ensures cause { OnErr (told result) ((s : State) → HoldsState H.KIND store.old self.old s → MayWant H.KIND s (Command.New d t operands.now)) }
+            (Command.New d t operands.now) (answer_of result) store.new self.new }
+        ensures cause { OnErr (answer_of result) ((s : State) → HoldsState H.KIND store.old self.old s → MayWant H.KIND s (Command.New d t operands.now)) }
         ensures same { IsSameStore store.old store.new }
     {
         let ty = VMSharedTypeIndex::new(t);
@@ -178,7 +179,7 @@ impl Runner {
         d: u16,
         n: u32,
     ) -> Ending
-        ensures goes { (s : State) → HoldsState H.KIND store.old self.old s → GoesOn H.KIND s (Command.I31 d n) (told result) store.new self.new }
+        ensures goes { (s : State) → HoldsState H.KIND store.old self.old s → GoesOn H.KIND s (Command.I31 d n) (answer_of result) store.new self.new }
         ensures same { IsSameStore store.old store.new }
     {
         if self.registers.make_room(d).is_err() {

@@ -4,7 +4,7 @@ ghost use Rattle.std.specs.Prelude.{◌≡◌, ℕ, Ok, Option, OnErr};
 ghost use Rattle.gc_commands.specs.declared.command.Command.TheVariants as Command;
 ghost use Rattle.gc_model.specs.Table.{Table};
 ghost use Rattle.gc_policy.specs.Accounts.{Account, HoldsAccount};
-ghost use Rattle.gc_script.specs.Endings.{ended, told};
+ghost use Rattle.gc_script.specs.Endings.{answer_of, ended};
 ghost use Rattle.gc_script.specs.State.{State, HeldOwned, StandsOwned, HoldsState};
 ghost use Rattle.gc_script.specs.Shapes.{give_up};
 ghost use Rattle.gc_script.specs.Run.{GoesOn};
@@ -41,8 +41,8 @@ impl Runner {
     /// Makes an owned root for what register `r` names, and puts it into owned register `o`. What that held is given up
     /// afterwards.
     pub(crate) fn own<H: GcHeap>(&mut self, store: &mut Store<H, u64>, o: u16, r: u16) -> Ending
-        ensures goes { (s : State) → HoldsState H.KIND store.old self.old s → GoesOn H.KIND s (Command.Own o r) (told result) store.new self.new }
-        ensures cause { OnErr (told result) ((s : State) → HoldsState H.KIND store.old self.old s → MayWant H.KIND s (Command.Own o r)) }
+        ensures goes { (s : State) → HoldsState H.KIND store.old self.old s → GoesOn H.KIND s (Command.Own o r) (answer_of result) store.new self.new }
+        ensures cause { OnErr (answer_of result) ((s : State) → HoldsState H.KIND store.old self.old s → MayWant H.KIND s (Command.Own o r)) }
         ensures same { IsSameStore store.old store.new }
     {
         let (class, named) = match self.reference_in(store, r) {
@@ -71,8 +71,8 @@ impl Runner {
 
     /// Pushes a scoped root for what owned register `o` names, and puts it into register `d`.
     pub(crate) fn root<H: GcHeap>(&mut self, store: &mut Store<H, u64>, d: u16, o: u16) -> Ending
-        ensures goes { (s : State) → HoldsState H.KIND store.old self.old s → GoesOn H.KIND s (Command.Root d o) (told result) store.new self.new }
-        ensures cause { OnErr (told result) ((s : State) → HoldsState H.KIND store.old self.old s → MayWant H.KIND s (Command.Root d o)) }
+        ensures goes { (s : State) → HoldsState H.KIND store.old self.old s → GoesOn H.KIND s (Command.Root d o) (answer_of result) store.new self.new }
+        ensures cause { OnErr (answer_of result) ((s : State) → HoldsState H.KIND store.old self.old s → MayWant H.KIND s (Command.Root d o)) }
         ensures same { IsSameStore store.old store.new }
     {
         let held = match self.owned.get(o) {

@@ -4,7 +4,7 @@ ghost use Rattle.std.specs.Prelude.{◌≡◌, false, true, Ok, OnOk, OnErr};
 ghost use Rattle.gc_model.specs.Holds.{HoldsKept};
 ghost use Rattle.gc_model.specs.Allocation.{Limits};
 ghost use Rattle.gc_script.specs.Built.{is_built};
-ghost use Rattle.gc_script.specs.Endings.{ended, is_quiet, told};
+ghost use Rattle.gc_script.specs.Endings.{answer_of, ended, is_quiet};
 ghost use Rattle.gc_script.specs.Slots.{new_runner};
 ghost use Rattle.gc_script.specs.State.{State, HoldsState};
 ghost use Rattle.gc_script.specs.Shapes.{is_collection};
@@ -97,7 +97,7 @@ impl Runner {
             return Ok(Reply::Refused(Refusal::BadLine));
         }
         if is_quiet(command) {
-            return self.run_quiet(store, limiter, command).told();
+            return self.run_quiet(store, limiter, command).answer();
         }
         self.run_telling(store, command)
     }
@@ -112,9 +112,9 @@ impl Runner {
     ) -> Ending
         requires { is_quiet command.now ≡ true }
         ensures runs { (s : State) → HoldsState H.KIND store.old self.old s
-            → RunsOne H.KIND store.old.alloc_counter (L.limits limiter.old) (L.limits limiter.new) s command.now (told result) store.new self.new }
-        ensures memory { OnErr (told result) (TakesMemory command.now) }
-        ensures cause { OnErr (told result) ((s : State) → HoldsState H.KIND store.old self.old s → MayWant H.KIND s command.now) }
+            → RunsOne H.KIND store.old.alloc_counter (L.limits limiter.old) (L.limits limiter.new) s command.now (answer_of result) store.new self.new }
+        ensures memory { OnErr (answer_of result) (TakesMemory command.now) }
+        ensures cause { OnErr (answer_of result) ((s : State) → HoldsState H.KIND store.old self.old s → MayWant H.KIND s command.now) }
         ensures same { IsSameStore store.old store.new }
     {
         match command {
@@ -144,9 +144,9 @@ impl Runner {
     fn end_unasking<H: GcHeap>(&mut self, store: &mut Store<H, u64>, command: &Command) -> Ending
         requires asks { asks_nothing command.now ≡ true }
         requires quiet { is_quiet command.now ≡ true }
-        ensures goes { (s : State) → HoldsState H.KIND store.old self.old s → GoesOn H.KIND s command.now (told result) store.new self.new }
-        ensures memory { OnErr (told result) (TakesMemory command.now) }
-        ensures cause { OnErr (told result) ((s : State) → HoldsState H.KIND store.old self.old s → MayWant H.KIND s command.now) }
+        ensures goes { (s : State) → HoldsState H.KIND store.old self.old s → GoesOn H.KIND s command.now (answer_of result) store.new self.new }
+        ensures memory { OnErr (answer_of result) (TakesMemory command.now) }
+        ensures cause { OnErr (answer_of result) ((s : State) → HoldsState H.KIND store.old self.old s → MayWant H.KIND s command.now) }
         ensures same { IsSameStore store.old store.new }
     {
         match command {

@@ -2,7 +2,7 @@
 
 ghost use Rattle.std.specs.Prelude.{◌≡◌, ℕ, Ok};
 ghost use Rattle.gc_commands.specs.declared.command.Command.TheVariants as Command;
-ghost use Rattle.gc_script.specs.Endings.{ended, told};
+ghost use Rattle.gc_script.specs.Endings.{answer_of, ended};
 ghost use Rattle.gc_script.specs.State.{State, HoldsState};
 ghost use Rattle.gc_script.specs.Run.{GoesOn};
 ghost use Rattle.gc_store.specs.Stores.{IsSameStore};
@@ -17,7 +17,7 @@ impl Runner {
     /// Enters a scope of roots.
     #[inline(always)]
     pub(crate) fn enter<H: GcHeap>(&mut self, store: &Store<H, u64>) -> Ending
-        ensures goes { (s : State) → HoldsState H.KIND store.now self.old s → GoesOn H.KIND s Command.Enter (told result) store.now self.new }
+        ensures goes { (s : State) → HoldsState H.KIND store.now self.old s → GoesOn H.KIND s Command.Enter (answer_of result) store.now self.new }
     {
         match self.marks.push(store.enter_gc_lifo_scope()) {
             Ok(()) => Ending::Done,

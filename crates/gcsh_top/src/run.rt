@@ -9,7 +9,7 @@ ghost use Rattle.gcsh_top.specs.Written.{WroteAnswer};
 ghost use Rattle.gcsh_top.specs.Statuses.{status_of};
 ghost use Rattle.gc_model.specs.Allocation.{Limits, Rose};
 ghost use Rattle.gc_script.specs.Built.{is_built};
-ghost use Rattle.gc_script.specs.Endings.{is_quiet, told};
+ghost use Rattle.gc_script.specs.Endings.{answer_of, is_quiet};
 ghost use Rattle.gc_script.specs.State.{State, HoldsState};
 ghost use Rattle.gc_script.specs.Session.{reply_line};
 ghost use Rattle.gc_store.specs.Stores.{IsSameStore};
@@ -80,7 +80,6 @@ impl LineRoom {
 }
 
 /// Writes a reply with its line feed. The text is a buffer that is used again.
-// In place: where the reply is known, what is left of it is the write of a constant.
 #[inline(always)]
 fn write_reply<K: Sink>(text: &mut String, sink: &mut K, reply: &Reply) -> Result<(), LineFault>
     ensures replied { OnOk result (Appends (K.tells sink.old).held (K.tells sink.new).held (reply_line reply.now)) }
@@ -116,7 +115,7 @@ fn write_line<K: Sink>(sink: &mut K, line: &str) -> Result<(), LineFault>
 // In place: each reply is the write of a constant.
 #[inline(always)]
 fn write_ending<K: Sink>(sink: &mut K, ending: Ending) -> Result<(), LineFault>
-    ensures wrote { WroteAnswer (told ending) result (K.tells sink.old).held (K.tells sink.new).held }
+    ensures wrote { WroteAnswer (answer_of ending) result (K.tells sink.old).held (K.tells sink.new).held }
     ensures failed { IsErrOf result LineFault.Sink → Rose (K.tells sink.old).faults (K.tells sink.new).faults }
     ensures faults { (K.tells sink.old).faults ≤ (K.tells sink.new).faults }
 {
@@ -128,7 +127,7 @@ fn write_ending<K: Sink>(sink: &mut K, ending: Ending) -> Result<(), LineFault>
 }
 
 /// Runs a command that tells something, and writes its reply.
-// Not in place: else each line would clear the rooms of replies, also where its command tells nothing.
+// Not `inline(always)`: else each line would clear the rooms of replies, also where its command tells nothing.
 fn tell<H: GcHeap, K: Sink>(
     runner: &mut Runner,
     store: &mut Store<H, u64>,

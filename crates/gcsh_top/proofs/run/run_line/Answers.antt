@@ -3,7 +3,7 @@ use Rattle.std.proofs.lemmas.Bool.{false≢true}
 use Rattle.gc_commands.specs.declared.reply.Reply.TheVariants as reply
 use Rattle.gc_commands.specs.declared.reply.Refusal.TheVariants as refusal
 use Rattle.gc_script.specs.Built.{is_built}
-use Rattle.gc_script.specs.Endings.{told}
+use Rattle.gc_script.specs.Endings.{answer_of}
 use Rattle.gcsh_top.specs.Runs.{not_written}
 use Rattle.gc_script.proofs.EndingLemmas.{quiet_collects}
 use Rattle.gc_script.proofs.GoesLemmas.{collection_built, unbuilt_runs}
@@ -32,12 +32,12 @@ returns-in-Bad-clause-broke_off g c =
 
 pub returns-then-is_quiet-clause-ran : goal.returns-then-is_quiet-clause-ran
 returns-then-is_quiet-clause-ran g c =
-    line_ran _ _ _ _ c.args.line.now c.in-Ok.command c.args.store.now _ c.args.runner.now _ _ _ (told c.run_quiet-ending.result) c.write_ending-then-is_quiet.result c.in-Ok.ensures c.run_quiet-ending.ensures.runs
+    line_ran _ _ _ _ c.args.line.now c.in-Ok.command c.args.store.now _ c.args.runner.now _ _ _ (answer_of c.run_quiet-ending.result) c.write_ending-then-is_quiet.result c.in-Ok.ensures c.run_quiet-ending.ensures.runs
     (λ is. quiet_collects c.in-Ok.command (sym c.is_quiet.ensures ∙ c.if-is_quiet.true) is) c.write_ending-then-is_quiet.ensures.wrote
 
 pub returns-then-is_quiet-clause-broke_off : goal.returns-then-is_quiet-clause-broke_off
 returns-then-is_quiet-clause-broke_off g c =
-    line_broke _ _ _ _ c.args.line.now c.in-Ok.command c.args.store.now _ c.args.runner.now _ _ _ (told c.run_quiet-ending.result) c.write_ending-then-is_quiet.result c.in-Ok.ensures c.run_quiet-ending.ensures.runs
+    line_broke _ _ _ _ c.args.line.now c.in-Ok.command c.args.store.now _ c.args.runner.now _ _ _ (answer_of c.run_quiet-ending.result) c.write_ending-then-is_quiet.result c.in-Ok.ensures c.run_quiet-ending.ensures.runs
     c.write_ending-then-is_quiet.ensures.wrote
 
 pub returns-clause-ran : goal.returns-clause-ran

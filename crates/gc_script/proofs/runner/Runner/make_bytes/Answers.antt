@@ -2,7 +2,7 @@ use Rattle.std.proofs.Common.{◌≡◌, ℕ, List, Some, true, sym, ap, ◌∙�
 use Rattle.gc_types.specs.Declarations.{Declaration, elem_at}
 use Rattle.gc_types.specs.declared.types.Types.{Types}
 use Rattle.gc_commands.specs.declared.command.Command.TheVariants.{NewBytes}
-use Rattle.gc_script.specs.Endings.{told}
+use Rattle.gc_script.specs.Endings.{answer_of}
 use Rattle.gc_script.specs.Slots.{RunnerView, with_registers}
 use Rattle.gc_script.specs.State.{State, HoldsState}
 use Rattle.gc_script.specs.Wants.{MayWant}
@@ -30,15 +30,15 @@ returns-clause-runs g c s holds =
     let at = (goal.at.returns-clause-runs g c).In-Some in
     let declared = known g at s.table.types holds.table.holds.types in
     let are : holds_bytes (Some c.in-Some.element) ≡ true = ap is_byte (c.is_i8.ensures.0 c.if-not-is_i8.false) in
-    subst (λ (ty : ℕ). RunsOne g.H.GcHeap.KIND c.args.store.now.alloc_counter (g.L.ResourceLimiter.limits c.args.limiter.now) (g.L.ResourceLimiter.limits c.place.new.limiter) s (NewBytes c.args.d ty c.args.bytes.now) (told c.place.result) c.place.new.store (with_registers c.place.new.registers (record { owned = c.self.inside.owned; marks = c.self.inside.marks.items }))) c.new-ty.ensures
+    subst (λ (ty : ℕ). RunsOne g.H.GcHeap.KIND c.args.store.now.alloc_counter (g.L.ResourceLimiter.limits c.args.limiter.now) (g.L.ResourceLimiter.limits c.place.new.limiter) s (NewBytes c.args.d ty c.args.bytes.now) (answer_of c.place.result) c.place.new.store (with_registers c.place.new.registers (record { owned = c.self.inside.owned; marks = c.self.inside.marks.items }))) c.new-ty.ensures
     (runs_rest g.H.GcHeap.KIND c.args.store.now.alloc_counter (g.L.ResourceLimiter.limits c.args.limiter.now) (g.L.ResourceLimiter.limits c.place.new.limiter) s (NewBytes c.args.d c.new-ty.result c.args.bytes.now)
-    (heap_tests g.H.GcHeap.KIND s (new_bytes c.new-ty.result c.args.bytes.now)) (told c.place.result) c.place.new.store (with_registers c.place.new.registers (record { owned = c.self.inside.owned; marks = c.self.inside.marks.items }))
+    (heap_tests g.H.GcHeap.KIND s (new_bytes c.new-ty.result c.args.bytes.now)) (answer_of c.place.result) c.place.new.store (with_registers c.place.new.registers (record { owned = c.self.inside.owned; marks = c.self.inside.marks.items }))
     (bytes_heap g.H.GcHeap.KIND s c.args.d c.new-ty.result c.args.bytes.now c.in-Some.element declared are)
     (c.place.ensures.runs s (record { owned = c.self.inside.owned; marks = c.self.inside.marks.items }) (λ (x : State). new_bytes c.new-ty.result c.args.bytes.now) (subst (λ (r : RunnerView). HoldsState g.H.GcHeap.KIND c.args.store.now r s) (sym c.self.view_is) holds) refl))
 
 pub returns-clause-cause : goal.returns-clause-cause
 returns-clause-cause g c =
-    on_any_err (told c.place.result)
+    on_any_err (answer_of c.place.result)
     (λ s holds.
     let at = (goal.at.returns-clause-cause g c).In-Some in
     let declared = known g at s.table.types holds.table.holds.types in

@@ -13,7 +13,7 @@ use Rattle.gc_values.specs.declared.root.RawValue.{RawValue}
 use Rattle.gc_store.specs.Requests.{CanPlaceIn, CanPlaceFields, IsObjectOf}
 use Rattle.gc_store.specs.Values.{AllStand}
 use Rattle.gc_commands.specs.declared.reply.Refusal.TheVariants as refusal
-use Rattle.gc_script.specs.Endings.{told}
+use Rattle.gc_script.specs.Endings.{answer_of}
 use Rattle.gc_script.specs.declared.objects.ValueTypes.TheVariants as types_of
 use Rattle.gc_script.specs.Slots.{RunnerView, with_registers, register_at}
 use Rattle.gc_script.specs.State.{State, HoldsState, RegisterStands, visible}
@@ -151,11 +151,11 @@ returns-clause-runs g c s holds =
     let checks = c.in_default-check_operands.ensures.checks s c.args.operands.now (holds_table holds.table) (held g after s holds) in
     let stand = subst (λ (raws : List RawValue). AllStand c.args.store.now s.table raws (given_values s c.args.operands.now)) (sym (values_are g placed)) checks.1 in
     runs_on g.H.GcHeap.KIND c.args.store.now.alloc_counter (g.L.ResourceLimiter.limits c.args.limiter.now) (g.L.ResourceLimiter.limits c.place.new.limiter) s (making c.args.d (class_of c.args.request) (requested c.args.request c.args.operands.now))
-    (requested_tests g.H.GcHeap.KIND s c.args.request c.args.operands.now) (heap_tests g.H.GcHeap.KIND s (requested c.args.request c.args.operands.now s)) (told c.place.result) c.place.new.store (with_registers c.place.new.registers (record { owned = c.self.inside.owned; marks = c.self.inside.marks.items }))
+    (requested_tests g.H.GcHeap.KIND s c.args.request c.args.operands.now) (heap_tests g.H.GcHeap.KIND s (requested c.args.request c.args.operands.now s)) (answer_of c.place.result) c.place.new.store (with_registers c.place.new.registers (record { owned = c.self.inside.owned; marks = c.self.inside.marks.items }))
     (left g given s holds)
     (c.place.ensures.runs s (record { owned = c.self.inside.owned; marks = c.self.inside.marks.items }) (requested c.args.request c.args.operands.now) (subst (λ (r : RunnerView). HoldsState g.H.GcHeap.KIND c.args.store.now r s) (sym c.self.view_is) holds) (asks_for g placed s c.args.request (known g at).0 (known_in g at s holds) stand))
 
 pub returns-clause-cause : goal.returns-clause-cause
 returns-clause-cause g c =
-    on_any_err (told c.place.result)
+    on_any_err (answer_of c.place.result)
     (λ s holds. unrefused_by (first_failing (requested_tests g.H.GcHeap.KIND s c.args.request c.args.operands.now)) (first_failing (heap_tests g.H.GcHeap.KIND s (requested c.args.request c.args.operands.now s))) (left g (goal.at.returns-clause-cause g c).After-give_values s holds) (room_only _ _))

@@ -5,7 +5,7 @@ use Rattle.gc_commands.specs.declared.command.Command.TheVariants.{NewArr}
 use Rattle.gc_commands.specs.declared.reply.Refusal.TheVariants as refusal
 use Rattle.gc_commands.specs.declared.reply.Reply.TheVariants as reply
 use Rattle.std.specs.Prelude.{Ok}
-use Rattle.gc_script.specs.Endings.{told}
+use Rattle.gc_script.specs.Endings.{answer_of}
 use Rattle.gc_script.specs.Slots.{RunnerView, with_registers, register_at}
 use Rattle.gc_script.specs.Wants.{MayWant}
 use Rattle.gc_script.specs.State.{State, HoldsState, RegisterStands}
@@ -67,22 +67,22 @@ returns-clause-runs g c s holds =
     let declared = known g at s.table.types holds.table.holds.types in
     elim c.if-len-gt0.branch [
       | then-len-gt0+in_default-check_value w ↦
-          subst (λ (ty : ℕ). RunsOne g.H.GcHeap.KIND c.args.store.now.alloc_counter (g.L.ResourceLimiter.limits c.args.limiter.now) (g.L.ResourceLimiter.limits c.place.new.limiter) s (NewArr c.args.d ty c.args.len c.args.operand.now) (told c.place.result) c.place.new.store (with_registers c.place.new.registers (record { owned = c.self.inside.owned; marks = c.self.inside.marks.items }))) c.new-ty.ensures
+          subst (λ (ty : ℕ). RunsOne g.H.GcHeap.KIND c.args.store.now.alloc_counter (g.L.ResourceLimiter.limits c.args.limiter.now) (g.L.ResourceLimiter.limits c.place.new.limiter) s (NewArr c.args.d ty c.args.len c.args.operand.now) (answer_of c.place.result) c.place.new.store (with_registers c.place.new.registers (record { owned = c.self.inside.owned; marks = c.self.inside.marks.items }))) c.new-ty.ensures
           (runs_rest g.H.GcHeap.KIND c.args.store.now.alloc_counter (g.L.ResourceLimiter.limits c.args.limiter.now) (g.L.ResourceLimiter.limits c.place.new.limiter) s (NewArr c.args.d c.new-ty.result c.args.len c.args.operand.now)
-          (heap_tests g.H.GcHeap.KIND s (filled_array s c.new-ty.result c.args.len c.args.operand.now)) (told c.place.result) c.place.new.store (with_registers c.place.new.registers (record { owned = c.self.inside.owned; marks = c.self.inside.marks.items }))
+          (heap_tests g.H.GcHeap.KIND s (filled_array s c.new-ty.result c.args.len c.args.operand.now)) (answer_of c.place.result) c.place.new.store (with_registers c.place.new.registers (record { owned = c.self.inside.owned; marks = c.self.inside.marks.items }))
           (array_heap g.H.GcHeap.KIND s c.args.d c.new-ty.result c.args.len c.args.operand.now c.in-Some.element declared (set g at_value s holds) w.if-len-gt0.true (w.in_default-check_value.ensures.checks s c.args.operand.now (holds_table holds.table) (stands g at_value s holds)).0)
           (c.place.ensures.runs s (record { owned = c.self.inside.owned; marks = c.self.inside.marks.items }) (λ (x : State). filled_array x c.new-ty.result c.args.len c.args.operand.now) (subst (λ (r : RunnerView). HoldsState g.H.GcHeap.KIND c.args.store.now r s) (sym c.self.view_is) holds) (given_value (given s c.args.operand.now), ((λ some. (w.in_default-check_value.ensures.checks s c.args.operand.now (holds_table holds.table) (stands g at_value s holds)).1), refl))))
       | else-len-gt0 w ↦
-          subst (λ (ty : ℕ). RunsOne g.H.GcHeap.KIND c.args.store.now.alloc_counter (g.L.ResourceLimiter.limits c.args.limiter.now) (g.L.ResourceLimiter.limits c.place.new.limiter) s (NewArr c.args.d ty c.args.len c.args.operand.now) (told c.place.result) c.place.new.store (with_registers c.place.new.registers (record { owned = c.self.inside.owned; marks = c.self.inside.marks.items }))) c.new-ty.ensures
+          subst (λ (ty : ℕ). RunsOne g.H.GcHeap.KIND c.args.store.now.alloc_counter (g.L.ResourceLimiter.limits c.args.limiter.now) (g.L.ResourceLimiter.limits c.place.new.limiter) s (NewArr c.args.d ty c.args.len c.args.operand.now) (answer_of c.place.result) c.place.new.store (with_registers c.place.new.registers (record { owned = c.self.inside.owned; marks = c.self.inside.marks.items }))) c.new-ty.ensures
           (runs_rest g.H.GcHeap.KIND c.args.store.now.alloc_counter (g.L.ResourceLimiter.limits c.args.limiter.now) (g.L.ResourceLimiter.limits c.place.new.limiter) s (NewArr c.args.d c.new-ty.result c.args.len c.args.operand.now)
-          (heap_tests g.H.GcHeap.KIND s (filled_array s c.new-ty.result c.args.len c.args.operand.now)) (told c.place.result) c.place.new.store (with_registers c.place.new.registers (record { owned = c.self.inside.owned; marks = c.self.inside.marks.items }))
+          (heap_tests g.H.GcHeap.KIND s (filled_array s c.new-ty.result c.args.len c.args.operand.now)) (answer_of c.place.result) c.place.new.store (with_registers c.place.new.registers (record { owned = c.self.inside.owned; marks = c.self.inside.marks.items }))
           (empty_heap g.H.GcHeap.KIND s c.args.d c.new-ty.result c.args.len c.args.operand.now c.in-Some.element declared (set g at_value s holds) (omega (arith, w.if-len-gt0.false)))
           (c.place.ensures.runs s (record { owned = c.self.inside.owned; marks = c.self.inside.marks.items }) (λ (x : State). filled_array x c.new-ty.result c.args.len c.args.operand.now) (subst (λ (r : RunnerView). HoldsState g.H.GcHeap.KIND c.args.store.now r s) (sym c.self.view_is) holds) (given_value (given s c.args.operand.now), ((λ some. absurd (omega (arith, some, w.if-len-gt0.false))), refl))))
     ]
 
 pub returns-clause-cause : goal.returns-clause-cause
 returns-clause-cause g c =
-    on_any_err (told c.place.result)
+    on_any_err (answer_of c.place.result)
     (λ s holds.
     let at = (goal.at.returns-clause-cause g c).After-operand_value in
     let at_value = (goal.at.returns-clause-cause g c).In-Some-operand_value in

@@ -10,7 +10,7 @@ use Rattle.std.proofs.lemmas.List.{length-map}
 use Rattle.gc_commands.specs.declared.command.Operand.{Operand}
 use Rattle.gc_model.specs.Stored.{stored}
 use Rattle.gc_store.specs.Requests.{element_of}
-use Rattle.gc_script.specs.Endings.{told}
+use Rattle.gc_script.specs.Endings.{answer_of}
 use Rattle.gc_script.specs.Slots.{RunnerView, with_registers, register_at}
 use Rattle.gc_script.specs.State.{State, HoldsState}
 use Rattle.gc_script.specs.Given.{given, given_value, given_values}
@@ -117,11 +117,11 @@ returns-clause-runs g c s holds =
     let after = (goal.at.After-give_values g given).After-check_operands in
     let checks = c.in_default-check_operands.ensures.checks s c.args.operands.now (holds_table holds.table) (held g after s holds) in
     let stand = subst (λ (raws : List RawValue). AllStand c.args.store.now s.table raws (given_values s c.args.operands.now)) (sym (values_are g placed)) checks.1 in
-    subst (λ (ty : ℕ). RunsOne g.H.GcHeap.KIND c.args.store.now.alloc_counter (g.L.ResourceLimiter.limits c.args.limiter.now) (g.L.ResourceLimiter.limits c.place.new.limiter) s (Fixed c.args.d ty c.args.operands.now) (told c.place.result) c.place.new.store (with_registers c.place.new.registers (record { owned = c.self.inside.owned; marks = c.self.inside.marks.items }))) c.new-ty.ensures
+    subst (λ (ty : ℕ). RunsOne g.H.GcHeap.KIND c.args.store.now.alloc_counter (g.L.ResourceLimiter.limits c.args.limiter.now) (g.L.ResourceLimiter.limits c.place.new.limiter) s (Fixed c.args.d ty c.args.operands.now) (answer_of c.place.result) c.place.new.store (with_registers c.place.new.registers (record { owned = c.self.inside.owned; marks = c.self.inside.marks.items }))) c.new-ty.ensures
     (runs_rest g.H.GcHeap.KIND c.args.store.now.alloc_counter (g.L.ResourceLimiter.limits c.args.limiter.now) (g.L.ResourceLimiter.limits c.place.new.limiter) s (Fixed c.args.d c.new-ty.result c.args.operands.now)
-    (heap_tests g.H.GcHeap.KIND s (new_fixed s c.new-ty.result c.args.operands.now)) (told c.place.result) c.place.new.store (with_registers c.place.new.registers (record { owned = c.self.inside.owned; marks = c.self.inside.marks.items }))
+    (heap_tests g.H.GcHeap.KIND s (new_fixed s c.new-ty.result c.args.operands.now)) (answer_of c.place.result) c.place.new.store (with_registers c.place.new.registers (record { owned = c.self.inside.owned; marks = c.self.inside.marks.items }))
     (left g given s holds)
     (c.place.ensures.runs s (record { owned = c.self.inside.owned; marks = c.self.inside.marks.items }) (λ (x : State). new_fixed x c.new-ty.result c.args.operands.now) (subst (λ (r : RunnerView). HoldsState g.H.GcHeap.KIND c.args.store.now r s) (sym c.self.view_is) holds) (given_values s c.args.operands.now, (stand, refl))))
 
 pub returns-clause-cause : goal.returns-clause-cause
-returns-clause-cause g c = on_any_err (told c.place.result) (may g (goal.at.returns-clause-cause g c).After-give_values)
+returns-clause-cause g c = on_any_err (answer_of c.place.result) (may g (goal.at.returns-clause-cause g c).After-give_values)

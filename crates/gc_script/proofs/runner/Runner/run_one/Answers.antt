@@ -16,14 +16,14 @@ returns-then-not-is_built-clause-runs g c s holds =
 pub returns-then-is_quiet-clause-runs : goal.returns-then-is_quiet-clause-runs
 returns-then-is_quiet-clause-runs g c s holds =
     subst (λ (r : Result Reply RunError). RunsOne g.H.GcHeap.KIND c.args.store.now.alloc_counter (g.L.ResourceLimiter.limits c.args.limiter.now) (g.L.ResourceLimiter.limits c.run_quiet.new.limiter) s c.args.command.now r c.run_quiet.new.store c.run_quiet.new.self)
-    (sym c.told.ensures) (c.run_quiet.ensures.runs s holds)
+    (sym c.answer.ensures) (c.run_quiet.ensures.runs s holds)
 
 pub returns-then-is_quiet-clause-memory : goal.returns-then-is_quiet-clause-memory
-returns-then-is_quiet-clause-memory g c = subst (λ (r : Result Reply RunError). OnErr r (TakesMemory c.args.command.now)) (sym c.told.ensures) c.run_quiet.ensures.memory
+returns-then-is_quiet-clause-memory g c = subst (λ (r : Result Reply RunError). OnErr r (TakesMemory c.args.command.now)) (sym c.answer.ensures) c.run_quiet.ensures.memory
 
 pub returns-then-is_quiet-clause-cause : goal.returns-then-is_quiet-clause-cause
 returns-then-is_quiet-clause-cause g c =
-    subst (λ (r : Result Reply RunError). OnErr r ((s : State) → HoldsState g.H.GcHeap.KIND c.args.store.now c.args.self.now s → MayWant g.H.GcHeap.KIND s c.args.command.now)) (sym c.told.ensures) c.run_quiet.ensures.cause
+    subst (λ (r : Result Reply RunError). OnErr r ((s : State) → HoldsState g.H.GcHeap.KIND c.args.store.now c.args.self.now s → MayWant g.H.GcHeap.KIND s c.args.command.now)) (sym c.answer.ensures) c.run_quiet.ensures.cause
 
 pub returns-then-is_quiet-clause-kept : goal.returns-then-is_quiet-clause-kept
 returns-then-is_quiet-clause-kept g c = λ is. absurd (quiet_collects c.args.command.now (sym c.is_quiet.ensures ∙ c.if-is_quiet.true) is)
