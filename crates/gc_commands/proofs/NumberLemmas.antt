@@ -1,6 +1,6 @@
 -- Plain decimals: which texts they are, and how they are read digit by digit.
 use Rattle.std.proofs.Common.{◌≡◌, ℕ, ℤ, pos, negsuc, suc, ◌+◌, ◌*◌, ◌<◌, ◌≤◌, ◌^◌, List, [], ◌∷◌, length, take, get_or, Result, Ok, Err, FitsSigned, of_z, to_z, to_z-of_z, rules, sym, ap, subst, ◌∙◌, inl, inr, ⊎_elim, arith}
-use Rattle.std.specs.Char.{IsNotAsciiDigit, digit_value}
+use Rattle.std.specs.Char.{IsNotAsciiDigit}
 use Rattle.std.specs.Fmt.{decimal, signed_decimal}
 use Rattle.std.specs.Int.{IsInRange, w32, w64}
 use Rattle.std.specs.Result.{OkIff, result_ok}

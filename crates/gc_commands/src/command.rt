@@ -1,10 +1,12 @@
 //! The commands of a script.
 
-ghost use Rattle.std.specs.Prelude.{◌≡◌};
+ghost use Rattle.std.specs.Prelude.{◌≡◌, []};
 
 use crate::reply::ByteText;
 use gc_refs::V128;
+use std::alloc::Global;
 use std::marker::Model;
+use std::mem;
 
 /// One command of a script. Registers, owned registers, slots and globals are named by 16-bit
 /// numbers, types by their indexes.
@@ -328,6 +330,15 @@ impl Model for Operands {
 }
 
 impl Operands {
+    /// No operands. Takes no memory.
+    pub fn new(alloc: Global) -> Operands
+        ensures { result ≡ [] }
+    {
+        Operands {
+            values: Vec::new(alloc),
+        }
+    }
+
     /// These operands. Takes no memory.
     pub fn from_vec(values: Vec<Operand>) -> Operands
         ensures { result ≡ values.items }
@@ -347,5 +358,16 @@ impl Operands {
         ensures { result.items ≡ self }
     {
         self.values
+    }
+
+    /// The vector that it was made from, with nothing in it, so that its room is used again. No operands are left. Takes no memory.
+    #[inline(always)]
+    pub fn take_room(&mut self, alloc: Global) -> Vec<Operand>
+        ensures room { result.items ≡ [] }
+        ensures left { self.new ≡ [] }
+    {
+        let mut values = mem::replace(self, Operands::new(alloc)).into_vec();
+        values.clear();
+        values
     }
 }

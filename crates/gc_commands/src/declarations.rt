@@ -18,7 +18,6 @@ use crate::words::Words;
 use std::alloc::{AllocError, Global};
 
 /// The words behind `struct`: `final`, a supertype, and any number of fields.
-#[inline(always)]
 pub(crate) fn read_struct(alloc: Global, words: &mut Words) -> Result<Option<Command>, AllocError>
     ensures { IfOk result (λ command. Reads (IsOfForm form.Struct) operands_of words.old command) }
 {
@@ -50,7 +49,6 @@ pub(crate) fn read_array(words: &mut Words) -> Option<Command>
 }
 
 /// The words behind `exn`: any number of types of values.
-#[inline(always)]
 pub(crate) fn read_exn(alloc: Global, words: &mut Words) -> Result<Option<Command>, AllocError>
     ensures { IfOk result (λ command. Reads (IsOfForm form.Exn) operands_of words.old command) }
 {

@@ -34,4 +34,4 @@ pub use numbers::number;
 pub use parse::{MAX_LINE, keep_operands, parse_line, parse_line_into, spelling_is_unique};
 pub use reply::{ByteText, Refusal, Reply, ReplyValue};
 pub use spelled::push_declaration;
-pub use text::{fixed_line, push_reply, refusal_line, reply_text};
+pub use text::{DONE_LINE, fixed_line, push_reply, refusal_line, reply_text};

@@ -37,7 +37,6 @@ pub(crate) fn read_new(
 }
 
 /// The words behind `newexn`: a register, a type, a tag and any number of operands.
-#[inline(always)]
 pub(crate) fn read_new_exn(
     alloc: Global,
     room: &mut Operands,
@@ -75,7 +74,6 @@ pub(crate) fn read_new_arr(words: &mut Words) -> Option<Command>
 }
 
 /// The words behind `fixed`: a register, a type and any number of operands.
-#[inline(always)]
 pub(crate) fn read_fixed(
     alloc: Global,
     room: &mut Operands,
@@ -97,7 +95,6 @@ pub(crate) fn read_fixed(
 }
 
 /// The words behind `bytes`: two numbers, or a register, a type and bytes.
-#[inline(always)]
 pub(crate) fn read_bytes(alloc: Global, words: &mut Words) -> Result<Option<Command>, AllocError>
     ensures { IfOk result (λ command. Reads (IsOfForm form.Bytes) operands_of words.old command) }
 {

@@ -3,12 +3,12 @@
 //! A line is cut into words, its first word says which form of command it is, and each form has a
 //! function that reads the words behind it.
 
-ghost use Rattle.std.specs.Prelude.{◌≡◌, ◌==◌, [], false, IfOk, MatchOption};
+ghost use Rattle.std.specs.Prelude.{◌≡◌, ◌==◌, [], true, false, IfOk, MatchOption};
 ghost use Rattle.std.specs.List.{slice_split};
 ghost use Rattle.std.specs.Option.{option_map_or};
 ghost use Rattle.std.specs.Str.{IsUtf8};
 ghost use Rattle.gc_commands.specs.declared.command.Command.{Command};
-ghost use Rattle.gc_commands.specs.Forms.{has_list};
+ghost use Rattle.gc_commands.specs.Forms.{has_list, has_number, has_registers};
 ghost use Rattle.gc_commands.specs.Kept.{operands_kept};
 ghost use Rattle.gc_commands.specs.Reading.{Reads};
 ghost use Rattle.gc_commands.specs.Spelling.{FitsCommand, IsCommandOf, IsOfForm, operands_of, spelling};
@@ -31,15 +31,15 @@ pub const MAX_LINE: usize = 1_048_576;
 /// The command that a line, without its line feed, is: the one that it spells, and `Bad` where it
 /// spells none. Numbers are plain decimals without leading zeros, words have one space between
 /// them, and a line of more than `MAX_LINE` bytes is `Bad`. Takes time linear in the line, and
-/// memory for as many fields, values or bytes as the line has words, where its form has a list.
+/// memory for the fields, values or bytes of its list, where its form has one.
 pub fn parse_line(alloc: Global, line: &[u8]) -> Result<Command, AllocError>
     ensures { IfOk result (λ command. IsCommandOf line.now command) }
 {
-    parse_line_into(alloc, &mut Operands::from_vec(Vec::new(alloc)), line)
+    parse_line_into(alloc, &mut Operands::new(alloc), line)
 }
 
-/// The command that a line is, as `parse_line` says. Its operands, where it has a list of them, stand in the list that is
-/// handed in, which takes memory only where it has no room for them; what it held is lost. `keep_operands` gives it back.
+/// The command that a line is, as `parse_line` says. Its operands, where it has a list of them, are in the vector of the list
+/// that is handed in, which takes memory only where it has no room for them. `keep_operands` gives that list back.
 #[inline(always)]
 pub fn parse_line_into(
     alloc: Global,
@@ -77,6 +77,7 @@ fn words_behind(behind: Option<&[u8]>) -> Option<Words>
 }
 
 /// The command of a form that the words behind its name spell. Only a list takes memory.
+// The hint is followed while all that it puts in place stays small: so of the forms with a list only `new` is read in place.
 #[inline(always)]
 fn read_form(
     alloc: Global,
@@ -99,10 +100,37 @@ fn read_form(
 
 /// The command of a form without a list that the words behind its name spell.
 // Each arm is the answer as it is: an `Ok` around it would be one more room for a command in each arm, and all of
-// them are cleared whatever the form is.
+// them are cleared whatever the form is. In place are the forms that stand alone; the readers of the others make it too
+// large for that.
 #[inline(always)]
 fn read_listless(form: Form, words: &mut Words) -> Option<Command>
     requires { has_list form ≡ false }
+    ensures { Reads (IsOfForm form) operands_of words.old result }
+{
+    match form {
+        Form::Enter => read_alone(words, Command::Enter),
+        Form::Leave => read_alone(words, Command::Leave),
+        Form::Pop => read_alone(words, Command::Pop),
+        Form::Gc => read_alone(words, Command::Gc),
+        Form::GcDrop => read_alone(words, Command::GcDrop),
+        Form::GcInc => read_alone(words, Command::GcInc),
+        Form::Cap => read_alone(words, Command::Cap),
+        Form::Array
+        | Form::NewArr
+        | Form::Host
+        | Form::I31
+        | Form::Field
+        | Form::Elem
+        | Form::SetField
+        | Form::SetElem
+        | Form::Grow => read_with_number(form, words),
+        _ => read_with_registers(form, words),
+    }
+}
+
+/// The command of a form with a number, a type or a value that the words behind its name spell.
+fn read_with_number(form: Form, words: &mut Words) -> Option<Command>
+    requires { has_number form ≡ true }
     ensures { Reads (IsOfForm form) operands_of words.old result }
 {
     match form {
@@ -112,15 +140,23 @@ fn read_listless(form: Form, words: &mut Words) -> Option<Command>
         Form::I31 => read_i31(words),
         Form::Field => read_field(words),
         Form::Elem => read_elem(words),
-        Form::Len => read_len(words),
-        Form::HostNumber => read_host_number(words),
         Form::SetField => read_set_field(words),
         Form::SetElem => read_set_elem(words),
+        Form::Grow => read_grow(words),
+        _ => unreachable!(),
+    }
+}
+
+/// The command of a form with registers, slots and globals alone that the words behind its name spell.
+fn read_with_registers(form: Form, words: &mut Words) -> Option<Command>
+    requires { has_registers form ≡ true }
+    ensures { Reads (IsOfForm form) operands_of words.old result }
+{
+    match form {
+        Form::Len => read_len(words),
+        Form::HostNumber => read_host_number(words),
         Form::Eq => read_eq(words),
-        Form::Enter => read_alone(words, Command::Enter),
-        Form::Leave => read_alone(words, Command::Leave),
         Form::Push => read_push(words),
-        Form::Pop => read_alone(words, Command::Pop),
         Form::Store => read_store(words),
         Form::Load => read_load(words),
         Form::SetGlobal => read_set_global(words),
@@ -130,11 +166,6 @@ fn read_listless(form: Form, words: &mut Words) -> Option<Command>
         Form::Unroot => read_unroot(words),
         Form::Throw => read_throw(words),
         Form::Take => read_take(words),
-        Form::Gc => read_alone(words, Command::Gc),
-        Form::GcDrop => read_alone(words, Command::GcDrop),
-        Form::GcInc => read_alone(words, Command::GcInc),
-        Form::Grow => read_grow(words),
-        Form::Cap => read_alone(words, Command::Cap),
         _ => unreachable!(),
     }
 }

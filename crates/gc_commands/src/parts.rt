@@ -19,7 +19,6 @@ use crate::numbers::{number, register_of, type_of};
 use crate::operands::operand_of;
 use crate::words::Words;
 use std::alloc::{AllocError, Global};
-use std::mem;
 
 /// A register, from 0 to 65535.
 #[inline(always)]
@@ -172,17 +171,6 @@ pub(crate) fn read_target(words: &mut Words) -> Option<(u16, u32)>
     Some((d, t))
 }
 
-/// The list of operands that was kept, with nothing in it. Nothing is kept afterwards.
-#[inline(always)]
-fn take_room(alloc: Global, room: &mut Operands) -> Vec<Operand>
-    ensures { result.items ≡ [] }
-{
-    let kept = mem::replace(room, Operands::from_vec(Vec::new(alloc)));
-    let mut values = kept.into_vec();
-    values.clear();
-    values
-}
-
 /// The operands that all words spell, in the list that was kept, where it has room for them.
 pub(crate) fn read_operands(
     alloc: Global,
@@ -191,7 +179,7 @@ pub(crate) fn read_operands(
 ) -> Result<Option<Vec<Operand>>, AllocError>
     ensures { IfOk result (λ values. Reads (AllByRecursion FitsOperand) (map operand_text) words.old (option_map (λ vs. vs.items) values)) }
 {
-    let mut values = take_room(alloc, room);
+    let mut values = room.take_room(alloc);
     while let Some(word) = words.next() {
         let Some(value) = operand_of(word) else {
             return Ok(None);

@@ -8,6 +8,9 @@ use crate::hex::{push_bytes, push_hex};
 use crate::reply::{Refusal, Reply, ReplyValue};
 use std::alloc::{AllocError, Global};
 
+/// The line of the reply of a command that was done and tells nothing, its line feed included.
+pub const DONE_LINE: &str = "ok\n";
+
 /// The text of a reply, without its line feed.
 pub fn reply_text(alloc: Global, reply: &Reply) -> Result<String, AllocError>
     ensures { IfOk result (λ text. string_bytes text ≡ text_of reply.now) }
@@ -43,7 +46,7 @@ pub fn fixed_line(reply: &Reply) -> Option<&'static str>
     ensures { IfSome result (λ line. line.now ≡ text_of reply.now ++ codes "\n") }
 {
     match reply {
-        Reply::Done => Some("ok\n"),
+        Reply::Done => Some(DONE_LINE),
         Reply::Same(true) => Some("true\n"),
         Reply::Same(false) => Some("false\n"),
         Reply::Refused(refusal) => Some(refusal_line(*refusal)),
