@@ -1,4 +1,4 @@
--- Where a value of an object that a handle names lies in the heap.
+-- Where a value of an object lies in the heap, by the object's word or by a handle that names it.
 use Rattle.std.proofs.Common.{◌≡◌, ℕ, ◌-◌, ◌<◌, List, Some, Ok, Err, sym, ap, ◌∙◌, subst, arith}
 use Rattle.std.specs.List.{slice_get}
 use Rattle.std.proofs.lemmas.Option.{same_Some}
@@ -20,10 +20,12 @@ use Rattle.gc_model.specs.Stores.{StoreView}
 use Rattle.gc_model.specs.Forms.{Form, Names as Naming, naming, number_at, storage_form}
 use Rattle.gc_model.specs.Holds.{Placing, Holds, Stands}
 use Rattle.gc_model.proofs.ObjectShapes.{shape_at}
+use Rattle.gc_model.proofs.Words.{place_even}
 use Rattle.gc_model.proofs.ObjectStands.{StandsByShape, value_not_host, LyingValue, shape_value, slot_stands}
 use Rattle.gc_values.specs.declared.root.GcRootIndex.{GcRootIndex}
 use Rattle.gc_values.specs.declared.root.RootFault.{RootFault}
 use Rattle.gc_store.specs.Roots.{word_of, HasValue}
+use Rattle.gc_store.specs.Reading.{HasValueIn}
 use Rattle.gc_values.specs.declared.slot.Slot.{Slot}
 use Rattle.gc_values.specs.declared.stored.Found.{Found}
 use Rattle.gc_values.specs.Kept.{FitsForm, FoundStands, IsFound}
@@ -77,11 +79,10 @@ pub record LyingAt {D : Type 0} (layouts : Layouts) (s : StoreView D) (t : Table
   pub is : IsHeldOf s.types s.heap word object shape count
   pub slot_is : slice_get (shape_slots layouts shape count) index ≡ Some lying.slot
 
-module _ {D : Type 0} (layouts : Layouts) (s : StoreView D) (t : Table D) (place : Placing) (holds : Holds layouts s t place) (handle : GcRootIndex) (index : ℕ) (value : Value) (has : HasValue s t handle index value) where
-  pub lying_at : (word : ℕ) → word_of s handle ≡ Ok word → LyingAt layouts s t place has.position word has.object index value
-  lying_at word e =
-      let named = named_word layouts s t place holds handle (at has.position) word has.named e in
-      let held = holds.objects.placed has.position word named.0 in
+module _ {D : Type 0} (layouts : Layouts) (s : StoreView D) (t : Table D) (place : Placing) (holds : Holds layouts s t place) (word index : ℕ) (value : Value) (has : HasValueIn t place word index value) where
+  pub lying_in : LyingAt layouts s t place has.position word has.object index value
+  lying_in =
+      let held = holds.objects.placed has.position word has.is_word in
       let names = naming place s.ids in
       let same : held.entry ≡ has.object = same_Some held.entry has.object (sym held.in_table ∙ has.object_is) in
       let stands : Stands layouts t.types names has.object held.object = subst (λ (o : Object D). Stands layouts t.types names o held.object) same held.stands in
@@ -89,8 +90,8 @@ module _ {D : Type 0} (layouts : Layouts) (s : StoreView D) (t : Table D) (place
       let lying = shape_value layouts t.types names has.object held.object of.by index value has.value_at in
       record {
         object = held.object;
-        placed = named.0;
-        not_zero = named.1;
+        placed = has.is_word;
+        not_zero = (place_even layouts t place s.heap holds.objects has.position word has.is_word).1;
         stands = stands;
         lying = lying;
         shape = of.by.stands.shape;
@@ -102,6 +103,20 @@ module _ {D : Type 0} (layouts : Layouts) (s : StoreView D) (t : Table D) (place
         };
         slot_is = slot_stands layouts t.types names has.object held.object of.by index lying.slot lying.is_slot;
       }
+
+module _ {D : Type 0} (layouts : Layouts) (s : StoreView D) (t : Table D) (place : Placing) (holds : Holds layouts s t place) (handle : GcRootIndex) (index : ℕ) (value : Value) (has : HasValue s t handle index value) where
+  -- what a handle names has its values by the word of the handle
+  abbrev pub value_in : (word : ℕ) → word_of s handle ≡ Ok word → HasValueIn t place word index value
+  value_in word e = record {
+    position = has.position;
+    is_word = (named_word layouts s t place holds handle (at has.position) word has.named e).0;
+    object = has.object;
+    object_is = has.object_is;
+    value_at = has.value_at;
+  }
+
+  pub lying_at : (word : ℕ) → word_of s handle ≡ Ok word → LyingAt layouts s t place has.position word has.object index value
+  lying_at word e = lying_in layouts s t place holds word index value (value_in word e)
 
   -- its handle has a word
   pub value_live : (f : RootFault) → word_of s handle ≡ Err f → ⊥

@@ -1,8 +1,9 @@
 -- What a read of an object finds.
-use Rattle.std.specs.Prelude.{ℕ, ◌<◌, Option, Result, Ok, Err}
+use Rattle.std.specs.Prelude.{◌≡◌, ℕ, ◌<◌, Option, Some, Result, Ok, Err, slice_get}
 use Rattle.gc_types.specs.declared.kind.Layouts.{Layouts}
 use Rattle.gc_owner.specs.declared.entry.GcClass.{GcClass}
-use Rattle.gc_model.specs.Values.{Reference, Value, reference}
+use Rattle.gc_model.specs.Values.{Reference, at, Value, reference, Object}
+use Rattle.gc_model.specs.Reach.{object_values}
 use Rattle.gc_model.specs.Table.{Table}
 use Rattle.gc_model.specs.Stores.{StoreView}
 use Rattle.gc_model.specs.Forms.{naming}
@@ -21,6 +22,35 @@ use Rattle.gc_values.specs.Kept.{FoundStands}
 abbrev pub FindsValue : (D : Type 0) → Layouts → StoreView D → GcRootIndex → ℕ → Found → Type 0
 FindsValue D layouts s handle index x =
     (t : Table D) (place : Placing) (v : Value) → Holds layouts s t place → HasValue s t handle index v → FoundStands (naming place s.ids) x v
+
+-- the object with that word has that value at that index: a field of a struct or an exception, or an element of an array
+pub record HasValueIn {D : Type 0} (t : Table D) (place : Placing) (word index : ℕ) (value : Value) : Type 0 where
+  pub position : ℕ
+  pub is_word : IsWord place (at position) word
+  pub object : Object D
+  pub object_is : slice_get t.objects position ≡ Some object
+  pub value_at : slice_get (object_values object) index ≡ Some value
+
+-- the word is that of an object with a value at that index, in some table that the store holds
+pub record CanReadIn (D : Type 0) (layouts : Layouts) (s : StoreView D) (word index : ℕ) : Type 0 where
+  pub table : Table D
+  pub place : Placing
+  pub holds : Holds layouts s table place
+  pub value : Value
+  pub has : HasValueIn table place word index value
+
+-- what is found by a word is the value of the table, for each table and placing that the store holds
+abbrev pub FindsValueIn : (D : Type 0) → Layouts → StoreView D → ℕ → ℕ → Found → Type 0
+FindsValueIn D layouts s word index x =
+    (t : Table D) (place : Placing) (v : Value) → Holds layouts s t place → HasValueIn t place word index v → FoundStands (naming place s.ids) x v
+
+-- what was found is a value now, in some table that the store holds
+pub record IsFoundHere (D : Type 0) (layouts : Layouts) (s : StoreView D) (found : Found) : Type 0 where
+  pub table : Table D
+  pub place : Placing
+  pub holds : Holds layouts s table place
+  pub value : Value
+  pub stands : FoundStands (naming place s.ids) found value
 
 -- a word is 0, or that of a root of some table that the store holds
 abbrev pub IsReferenceWord : (D : Type 0) → Layouts → StoreView D → ℕ → Type 0

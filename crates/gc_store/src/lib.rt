@@ -32,6 +32,7 @@ pub mod write;
 
 pub use collecting::{Collecting, Guard};
 pub use gc_owner::{GcClass, PageLimit, ResourceLimiter, Scripted, should_collect_first};
+pub use gc_values::stored::Found;
 pub use gc_values::{
     AskedPairs, Contents, Engine, GcHeapOutOfMemory, GcRootIndex, HeapConfig, Place, PlaceFault,
     RawValue, RootFault, RootSlot, RootedObject, StoreId, TypePair, WriteFault,

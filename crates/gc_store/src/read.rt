@@ -5,16 +5,18 @@ ghost use Rattle.gc_owner.specs.declared.entry.GcClass.{GcClass};
 ghost use Rattle.gc_model.specs.Table.{Table, push};
 ghost use Rattle.gc_model.specs.Reads.{same_reference, after_read};
 ghost use Rattle.gc_model.specs.Values.{Reference, Value, small, reference};
+ghost use Rattle.gc_model.specs.Forms.{naming};
 ghost use Rattle.gc_model.specs.Holds.{HoldsTable, Holds, Placing, IsWord};
 ghost use Rattle.gc_policy.specs.Accounts.{Account, IsAccount, HoldsAccount};
 ghost use Rattle.gc_store.specs.Roots.{word_of, IsRootWord, IsReference, NamesReference, NamesNothing, TellsReference, TellsWord, is_of_store, HasValue, CanRead};
 ghost use Rattle.gc_store.specs.Roots.{FindsRoot};
 ghost use Rattle.gc_store.specs.Handles.{PushesRoot};
 ghost use Rattle.gc_store.specs.Values.{ReadsValue};
-ghost use Rattle.gc_store.specs.Reading.{FindsValue, IsReferenceWord, ReadsReference};
+ghost use Rattle.gc_store.specs.Reading.{FindsValue, CanReadIn, FindsValueIn, IsFoundHere, IsReferenceWord, ReadsReference};
 ghost use Rattle.gc_store.specs.Stores.{IsSameStore, scoped_places};
 ghost use Rattle.gc_store.specs.Staying.{OnlyAdds};
 ghost use Rattle.gc_store.specs.OwnedWords.{HoldsThere};
+ghost use Rattle.gc_values.specs.Kept.{FoundStands};
 
 use crate::place::scoped_handle;
 use crate::store::Store;
@@ -146,19 +148,28 @@ impl<H: GcHeap, D: Drop> Store<H, D> {
         self.push_root(VMGcRef::from_i31(value).as_raw_u32())
     }
 
+    /// What lies at that index of the object that has that word: a field of a struct or an exception, or an element of an array.
+    /// The word is that of a live root, as `word` tells it, and stands for the object until the heap collects next. It makes no
+    /// root and takes no memory.
+    #[inline(always)]
+    pub fn found_in(&self, word: u32, index: u32) -> Found
+        requires { CanReadIn D H.KIND self.now word index }
+        ensures { FindsValueIn D H.KIND self.now word index result }
+    {
+        self.owner.is_ready();
+        let gc_ref = VMGcRef::from_raw_u32(word).unwrap();
+        let slot = slot_in(self.owner.heap(), self.owner.types(), &gc_ref, index);
+        read_slot(self.owner.heap(), &gc_ref, &slot)
+    }
+
     /// What lies at that index of the object that the handle names.
     #[inline(always)]
     fn found_at(&self, handle: GcRootIndex, index: u32) -> Found
         requires { CanRead D H.KIND self.now handle index }
         ensures { FindsValue D H.KIND self.now handle index result }
     {
-        self.owner.is_ready();
         match self.word_of(handle) {
-            Ok(word) => {
-                let gc_ref = VMGcRef::from_raw_u32(word).unwrap();
-                let slot = slot_in(self.owner.heap(), self.owner.types(), &gc_ref, index);
-                read_slot(self.owner.heap(), &gc_ref, &slot)
-            }
+            Ok(word) => self.found_in(word, index),
             Err(_) => unreachable!(),
         }
     }
@@ -185,6 +196,31 @@ impl<H: GcHeap, D: Drop> Store<H, D> {
         }
     }
 
+    /// What was found in an object, as a value. A reference that isn't null gets a scoped root: `RootsFull` where no further one
+    /// may be made.
+    #[inline(always)]
+    pub fn give_found(&mut self, found: Found) -> Result<RawValue, RootFault>
+        requires { IsFoundHere D H.KIND self.old found }
+        ensures reads { (t : Table D) (place : Placing) (a : Account) (value : Value) → Holds H.KIND self.old t place → IsAccount H.KIND self.old place a
+            → FoundStands (naming place self.old.ids) found value → ReadsValue H.KIND t a value result self.new }
+        ensures there { (t : Table D) (place : Placing) (a : Account) (value : Value) → HoldsThere H.KIND self.old t place a
+            → FoundStands (naming place self.old.ids) found value → OnOk result (HoldsThere H.KIND self.new (after_read value t) place a) }
+        ensures err { OnErr result (self.new ≡ self.old) }
+        ensures same { IsSameStore self.old self.new }
+        ensures spare { scoped_places self.old ≤ scoped_places self.new }
+        ensures reserved { 0 < self.old.spare → result ≡ Err RootFault.Memory → ⊥ }
+    {
+        match found {
+            Found::Number(value) => Ok(value),
+            Found::Func(code) => Ok(RawValue::Func(function_at(&self.interned.functions, code))),
+            Found::Cont(code) => Ok(RawValue::Cont(cont_at(&self.interned.conts, code))),
+            Found::Ref(class, word) => match self.push_reference(word) {
+                Ok(found) => Ok(RawValue::Ref(class, found)),
+                Err(fault) => Err(fault),
+            },
+        }
+    }
+
     /// The value at that index of the object that the handle names: a field of a struct or an exception, or an element
     /// of an array. A reference that isn't null gets a scoped root: `RootsFull` where no further one may be made.
     #[inline(always)]
@@ -199,14 +235,7 @@ impl<H: GcHeap, D: Drop> Store<H, D> {
         ensures spare { scoped_places self.old ≤ scoped_places self.new }
         ensures reserved { 0 < self.old.spare → result ≡ Err RootFault.Memory → ⊥ }
     {
-        match self.found_at(handle, index) {
-            Found::Number(value) => Ok(value),
-            Found::Func(code) => Ok(RawValue::Func(function_at(&self.interned.functions, code))),
-            Found::Cont(code) => Ok(RawValue::Cont(cont_at(&self.interned.conts, code))),
-            Found::Ref(class, word) => match self.push_reference(word) {
-                Ok(found) => Ok(RawValue::Ref(class, found)),
-                Err(fault) => Err(fault),
-            },
-        }
+        let found = self.found_at(handle, index);
+        self.give_found(found)
     }
 }

@@ -1,68 +1,18 @@
-use Rattle.std.proofs.Common.{Ok, Err, sym, subst}
-use Rattle.gc_model.specs.Forms.{naming, IsIdCode, IsContCode}
-use Rattle.gc_model.specs.Stores.{StoreView}
-use Rattle.gc_store.proofs.ReadValues.{reads_number, found_reference, reads_found, found_function, reads_function, found_cont, reads_cont, number_there, found_there, function_there, cont_there}
 use Rattle.gc_store.proofs.store.Store.read_value.Goals as goal
 
-pub returns-in-Number-clause-reads : goal.returns-in-Number-clause-reads
-returns-in-Number-clause-reads g c t a value holds has =
-    reads_number g.H.GcHeap.KIND c.args.self.now t a holds (naming holds.place c.args.self.now.ids) value c.in-Number.value (c.in-Number.ensures t holds.place value holds.holds has)
+pub give_found-requires : goal.give_found-requires
+give_found-requires g c = record {
+  table = c.requires.table;
+  place = c.requires.holds.0;
+  holds = c.requires.holds.1;
+  value = c.requires.value;
+  stands = c.found_at-found.ensures c.requires.table c.requires.holds.0 c.requires.value c.requires.holds.1 c.requires.has;
+}
 
-pub push_reference-requires : goal.push_reference-requires
-push_reference-requires g c = λ positive.
-    let is = found_reference _ c.in-Ref.class c.in-Ref.word c.requires.value (c.in-Ref.ensures c.requires.table c.requires.holds.0 c.requires.value c.requires.holds.1 c.requires.has) in
-    record {
-      table = c.requires.table;
-      place = c.requires.holds.0;
-      holds = c.requires.holds.1;
-      root = is.root;
-      is_word = is.is_word;
-      not_null = positive;
-    }
+pub returns-clause-reads : goal.returns-clause-reads
+returns-clause-reads g c t a value holds has =
+    c.give_found.ensures.reads t holds.place a value holds.holds holds.account (c.found_at-found.ensures t holds.place value holds.holds has)
 
-pub returns-in-Ok-clause-reads : goal.returns-in-Ok-clause-reads
-returns-in-Ok-clause-reads g c t a value holds has =
-    let is = found_reference _ c.in-Ref.class c.in-Ref.word value (c.in-Ref.ensures t holds.place value holds.holds has) in
-    reads_found g.H.GcHeap.KIND c.args.self.now _ t holds.place a c.in-Ref.class c.in-Ref.word value (Ok c.in-Ok.found) holds.holds holds.account is c.in-Ok.ensures.reads
-
-pub returns-in-Err-clause-reads : goal.returns-in-Err-clause-reads
-returns-in-Err-clause-reads g c t a value holds has =
-    let is = found_reference _ c.in-Ref.class c.in-Ref.word value (c.in-Ref.ensures t holds.place value holds.holds has) in
-    reads_found g.H.GcHeap.KIND c.args.self.now _ t holds.place a c.in-Ref.class c.in-Ref.word value (Err c.in-Err.fault) holds.holds holds.account is c.in-Err.ensures.reads
-
-pub function_at-requires : goal.function_at-requires
-function_at-requires g c =
-    let is = found_function _ c.in-Func.code c.requires.value (c.in-Func.ensures c.requires.table c.requires.holds.0 c.requires.value c.requires.holds.1 c.requires.has) in
-    (is.func, subst (λ (s : StoreView g.row.D.Denot). IsIdCode s.ids.funcs is.func c.in-Func.code) (sym c.self.view_is) is.is_code)
-
-pub returns-in-Func-clause-reads : goal.returns-in-Func-clause-reads
-returns-in-Func-clause-reads g c t a value holds has =
-    reads_function g.H.GcHeap.KIND c.args.self.now t a holds c.args.self.now.ids c.in-Func.code value (found_function _ c.in-Func.code value (c.in-Func.ensures t holds.place value holds.holds has)) c.function_at.result
-    (λ f is. c.function_at.ensures f (subst (λ (s : StoreView g.row.D.Denot). IsIdCode s.ids.funcs f c.in-Func.code) (sym c.self.view_is) is))
-
-pub cont_at-requires : goal.cont_at-requires
-cont_at-requires g c =
-    let is = found_cont _ c.in-Cont.code c.requires.value (c.in-Cont.ensures c.requires.table c.requires.holds.0 c.requires.value c.requires.holds.1 c.requires.has) in
-    (is.cont, subst (λ (s : StoreView g.row.D.Denot). IsContCode s.ids.conts is.cont c.in-Cont.code) (sym c.self.view_is) is.is_code)
-
-pub returns-in-Cont-clause-reads : goal.returns-in-Cont-clause-reads
-returns-in-Cont-clause-reads g c t a value holds has =
-    reads_cont g.H.GcHeap.KIND c.args.self.now t a holds c.args.self.now.ids c.in-Cont.code value (found_cont _ c.in-Cont.code value (c.in-Cont.ensures t holds.place value holds.holds has)) c.cont_at.result
-    (λ k is. c.cont_at.ensures k (subst (λ (s : StoreView g.row.D.Denot). IsContCode s.ids.conts k c.in-Cont.code) (sym c.self.view_is) is))
-
-pub returns-in-Number-clause-there : goal.returns-in-Number-clause-there
-returns-in-Number-clause-there g c t place a value there has =
-    number_there g.H.GcHeap.KIND c.args.self.now t place a (naming place c.args.self.now.ids) value c.in-Number.value (c.in-Number.ensures t place value there.0 has) there
-
-pub returns-in-Ok-clause-there : goal.returns-in-Ok-clause-there
-returns-in-Ok-clause-there g c t place a value there has =
-    let is = found_reference _ c.in-Ref.class c.in-Ref.word value (c.in-Ref.ensures t place value there.0 has) in
-    found_there g.H.GcHeap.KIND _ t place a c.in-Ref.class c.in-Ref.word value is (c.in-Ok.ensures.there t place a c.in-Ref.class is.root there is.is_word)
-
-pub returns-in-Func-clause-there : goal.returns-in-Func-clause-there
-returns-in-Func-clause-there g c t place a value there has =
-    function_there g.H.GcHeap.KIND c.args.self.now t place a c.args.self.now.ids c.in-Func.code value (found_function _ c.in-Func.code value (c.in-Func.ensures t place value there.0 has)) there
-
-pub returns-in-Cont-clause-there : goal.returns-in-Cont-clause-there
-returns-in-Cont-clause-there g c t place a value there has =
-    cont_there g.H.GcHeap.KIND c.args.self.now t place a c.args.self.now.ids c.in-Cont.code value (found_cont _ c.in-Cont.code value (c.in-Cont.ensures t place value there.0 has)) there
+pub returns-clause-there : goal.returns-clause-there
+returns-clause-there g c t place a value there has =
+    c.give_found.ensures.there t place a value there (c.found_at-found.ensures t place value there.0 has)
