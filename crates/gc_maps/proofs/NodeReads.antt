@@ -8,20 +8,27 @@ use Rattle.gc_model.specs.Values.{Reference, null, Value, numeric, i32, i64, ref
 use Rattle.gc_model.specs.Reach.{object_values}
 use Rattle.gc_model.specs.Table.{Table}
 use Rattle.gc_model.specs.Stores.{StoreView}
-use Rattle.gc_model.specs.Holds.{HoldsTable}
+use Rattle.gc_model.specs.SideValues.{InternedIds}
+use Rattle.gc_model.specs.Forms.{Names, naming}
+use Rattle.gc_model.specs.Holds.{Placing, IsWord, Holds, HoldsTable}
 use Rattle.gc_policy.specs.Accounts.{Account, HoldsAccount}
 use Rattle.gc_policy.proofs.AccountLemmas.{some_account}
 use Rattle.gc_values.specs.declared.root.GcRootIndex.{GcRootIndex}
+use Rattle.gc_values.specs.declared.stored.Found.{Found}
+use Rattle.gc_values.specs.Kept.{FoundStands}
 use Rattle.gc_store.specs.Roots.{NamesReference, HasValue, CanRead}
+use Rattle.gc_store.specs.Reading.{HasValueIn, CanReadIn, FindsValueIn, IsFoundHere}
 use Rattle.gc_store.specs.Stores.{IsSameStore}
 use Rattle.gc_store.proofs.HandleWords.{named_held}
 use Rattle.gc_lists.specs.declared.fault.ListFault.{ListFault}
 use Rattle.gc_lists.specs.declared.fault.ListFault.TheVariants as fault
 use Rattle.gc_lists.specs.Frames.{Leaves}
 use Rattle.gc_lists.specs.Cells as cells
+use Rattle.gc_maps.specs.declared.part.FoundNode.{FoundNode}
 use Rattle.gc_maps.specs.declared.part.Node.{Node}
 use Rattle.gc_maps.specs.Trees.{Tree, leaf, node, height}
-use Rattle.gc_maps.specs.Parts.{NamesLink, RootIs, PartIs, NodeIs, NodeIn}
+use Rattle.gc_maps.specs.Parts.{RootIs, PartIs, NodeIs}
+use Rattle.gc_maps.specs.FoundNodes.{link_found, number_found, word_found, HasTree, NodeWordIn, NodeFound, FindsNode, GivesLink}
 use Rattle.gc_maps.specs.Ends.{Pushes, EndsReading}
 use Rattle.gc_maps.proofs.Naming.{Keeps, held_table, root_kept, tree_kept, link_kept}
 use Rattle.gc_maps.proofs.Values.{long_fits}
@@ -37,9 +44,6 @@ pub record AtNode {D : Type 0} (layouts : Layouts) (s : StoreView D) (t : Table 
   pub is : RootIs s t ty (Some h) (node x k v y)
 
 module _ {D : Type 0} (layouts : Layouts) (t : Table D) (a : Account) (ty : ℕ) (h : GcRootIndex) (x : Tree) (k v : ℤ) (y : Tree) where
-  pub at_later : (s s' : StoreView D) → IsSameStore s s' → HoldsAccount layouts s' t a → AtNode layouts s t a ty h x k v y → AtNode layouts s' t a ty h x k v y
-  at_later s s' same holds here = record { holds = holds; is = root_kept s t s' t (table_keeps s t s' same) ty (Some h) (node x k v y) here.is }
-
   module _ (s : StoreView D) (here : AtNode layouts s t a ty h x k v y) where
     abbrev pub the_node : cells.IsNode t.types t.objects here.is.reference k v (height (node x k v y)) here.is.is.left here.is.is.right
     the_node = here.is.is.is_node
@@ -59,9 +63,6 @@ module _ {D : Type 0} (layouts : Layouts) (t : Table D) (a : Account) (ty : ℕ)
     pub can : (i : ℕ) (value : Value) → slice_get (object_values the_object) i ≡ Some value → CanRead D layouts s h i
     can i value there = record { table = t; holds = held_table layouts s t a here.holds; value = value; has = has i value there }
 
-pub at_node : {D : Type 0} (layouts : Layouts) (s : StoreView D) (h : GcRootIndex) (can : NodeIn D layouts s h) → AtNode layouts s can.table (some_account layouts s can.table can.holds).0 can.ty h can.left can.key can.value can.right
-at_node layouts s h can = record { holds = (some_account layouts s can.table can.holds).1; is = can.is }
-
 -- a root names no null
 pub not_null : {D : Type 0} (layouts : Layouts) (s : StoreView D) (t : Table D) → HoldsTable layouts s t → (h : GcRootIndex) (r : Reference) → NamesReference s t h r → r ≡ null → ⊥
 not_null layouts s t holds h r named e =
@@ -77,34 +78,6 @@ number_kept n k bits e f = ap (λ (z : ℤ). to_z w64 (of_z w64 z)) e ∙ to_z-o
 pub number_fits : (k : ℤ) (bits : ℕ) → k ≡ cells.number_of bits → SFits w64 k
 number_fits k bits e = subst (SFits w64) (sym e) (long_fits bits)
 
--- What the two numbers of a node are, where each was read
-module _ {D : Type 0} (layouts : Layouts) (h : GcRootIndex) (s0 s1 s2 : StoreView D) (same1 : IsSameStore s0 s1) (same2 : IsSameStore s1 s2) (n m : ℤ)
-    (first : (t : Table D) (a : Account) (bits : ℕ) → HoldsAccount layouts s0 t a → HasValue s0 t h 0 (numeric i64 bits) → (n ≡ cells.number_of bits) × HoldsAccount layouts s1 t a)
-    (second : (t : Table D) (a : Account) (bits : ℕ) → HoldsAccount layouts s1 t a → HasValue s1 t h 1 (numeric i64 bits) → (m ≡ cells.number_of bits) × HoldsAccount layouts s2 t a) where
-  module _ (t : Table D) (a : Account) (ty : ℕ) (x : Tree) (k v : ℤ) (y : Tree) (here : AtNode layouts s0 t a ty h x k v y) where
-    abbrev read1 : (n ≡ cells.number_of (the_node layouts t a ty h x k v y s0 here).key_bits) × HoldsAccount layouts s1 t a
-    read1 = first t a (the_node layouts t a ty h x k v y s0 here).key_bits here.holds (has layouts t a ty h x k v y s0 here 0 _ refl)
-
-    abbrev pub at1 : AtNode layouts s1 t a ty h x k v y
-    at1 = at_later layouts t a ty h x k v y s0 s1 same1 read1.1 here
-
-    abbrev read2 : (m ≡ cells.number_of (the_node layouts t a ty h x k v y s1 at1).value_bits) × HoldsAccount layouts s2 t a
-    read2 = second t a (the_node layouts t a ty h x k v y s1 at1).value_bits at1.holds (has layouts t a ty h x k v y s1 at1 1 _ refl)
-
-    abbrev pub at2 : AtNode layouts s2 t a ty h x k v y
-    at2 = at_later layouts t a ty h x k v y s1 s2 same2 read2.1 at1
-
-    pub key_read : to_z w64 (of_z w64 n) ≡ k
-    key_read = number_kept n k (the_node layouts t a ty h x k v y s0 here).key_bits read1.0 (the_node layouts t a ty h x k v y s0 here).key_is
-
-    pub value_read : to_z w64 (of_z w64 m) ≡ v
-    value_read = number_kept m v (the_node layouts t a ty h x k v y s1 at1).value_bits read2.0 (the_node layouts t a ty h x k v y s1 at1).value_is
-
--- What its two links are
-module _ {D : Type 0} (layouts : Layouts) (h : GcRootIndex) (s s1 : StoreView D) (same : IsSameStore s s1) (answer : Result (Option GcRootIndex) ListFault) where
-  abbrev pub ReadsLink : ℕ → Type 0
-  ReadsLink i = (t : Table D) (a : Account) (r : Reference) → HoldsAccount layouts s t a → HasValue s t h i (reference Any r) → EndsReading layouts 1 t (λ s u link. NamesLink s u link r) answer s1
-
 -- a refusal, once so many roots were pushed
 pub refused_later : {D A B : Type 0} (layouts : Layouts) (m n : ℕ) (t u : Table D) (DoneA : StoreView D → Table D → A → Type 0) (DoneB : StoreView D → Table D → B → Type 0) (f : ListFault) (new : StoreView D)
     → Pushes m t u → EndsReading {A = A} layouts n u DoneA (Err f) new → EndsReading {A = B} layouts (m + n) t DoneB (Err f) new
@@ -115,59 +88,119 @@ refused_later layouts m n t u DoneA DoneB (fault.HeapOutOfMemory f) new pushes e
 refused_later layouts m n t u DoneA DoneB fault.Memory new pushes ends =
     record { after = ends.after; account = ends.account; holds = ends.holds; changed = pushes_then m n t u ends.after pushes ends.changed }
 
--- at a node: its left link was read
-module _ {D : Type 0} (layouts : Layouts) (h : GcRootIndex) (t : Table D) (a : Account) (ty : ℕ) (x : Tree) (k v : ℤ) (y : Tree)
-    (s s1 : StoreView D) (same : IsSameStore s s1) (here : AtNode layouts s t a ty h x k v y) where
-  pub left_refused : (f : ListFault) → ReadsLink layouts h s s1 same (Err f) 3 → (DoneB : StoreView D → Table D → Node → Type 0) → EndsReading layouts 2 t DoneB (Err f) s1
-  left_refused f reads DoneB =
-      let ends = reads t a here.is.is.left here.holds (has layouts t a ty h x k v y s here 3 _ refl) in
-      refused_later {A = Option GcRootIndex} layouts 1 1 t t (λ s u link. NamesLink s u link here.is.is.left) DoneB f s1 (pushes_none 1 t) ends
+-- What is found by the word of a node
+module _ {D : Type 0} (t : Table D) (place : Placing) (ty word : ℕ) (x : Tree) (k v : ℤ) (y : Tree) (has : HasTree t place ty word (node x k v y)) where
+  abbrev pub found_node : cells.IsNode t.types t.objects has.root k v (height (node x k v y)) has.is.left has.is.right
+  found_node = has.is.is_node
 
-  module _ (left : Option GcRootIndex) (reads : ReadsLink layouts h s s1 same (Ok left) 3) where
-    abbrev pub ends1 : Leaves layouts (λ u. Pushes 1 t u × NamesLink s1 u left here.is.is.left) s1
-    ends1 = reads t a here.is.is.left here.holds (has layouts t a ty h x k v y s here 3 _ refl)
+  abbrev pub found_object : Object D
+  found_object = cells.node found_node.ty found_node.key_bits found_node.value_bits (height (node x k v y)) has.is.left has.is.right
 
-    abbrev pub mid : Table D
-    mid = ends1.after
+  pub has_in : (i : ℕ) (value : Value) → slice_get (object_values found_object) i ≡ Some value → HasValueIn t place word i value
+  has_in i value there = record {
+    position = found_node.position;
+    is_word = subst (λ (r : Reference). IsWord place r word) found_node.named has.is_word;
+    object = found_object;
+    object_is = found_node.object_is;
+    value_at = there;
+  }
 
-    pub keeps1 : Keeps s t s1 mid
-    keeps1 = pushes_keep 1 s t s1 mid same ends1.changed.0
+-- each of its values may be read
+pub can_in : {D : Type 0} (layouts : Layouts) (s : StoreView D) (word : ℕ) (q : NodeWordIn D layouts s word) (i : ℕ) (value : Value)
+    → slice_get (object_values (found_object q.table q.place q.ty word q.left q.key q.value q.right q.has)) i ≡ Some value → CanReadIn D layouts s word i
+can_in layouts s word q i value there = record {
+  table = q.table;
+  place = q.place;
+  holds = q.holds;
+  value = value;
+  has = has_in q.table q.place q.ty word q.left q.key q.value q.right q.has i value there;
+}
 
-    abbrev pub here1 : AtNode layouts s1 mid ends1.account ty h x k v y
-    here1 = record { holds = ends1.holds; is = root_kept s t s1 mid keeps1 ty (Some h) (node x k v y) here.is }
+-- a number that was found
+found_number : (names : Names) (x : Found) (bits : ℕ) → FoundStands names x (numeric i64 bits) → number_found x ≡ cells.number_of bits
+found_number names x bits is = ap number_found is.found ∙ ap cells.number_of is.is_code
+
+-- one that is passed on stays the same
+number_passed : (n k : ℤ) → n ≡ k → SFits w64 k → to_z w64 (of_z w64 n) ≡ k
+number_passed n k e fits = ap (λ (z : ℤ). to_z w64 (of_z w64 z)) e ∙ to_z-of_z w64 k fits
+
+-- a link that was found is that of its word
+word_stands : (names : Names) (x : Found) (word : ℕ) (r : Reference) → word ≡ word_found x → FoundStands names x (reference Any r) → FoundStands names (link_found word) (reference Any r)
+word_stands names x word r e is = record { code = is.code; found = ap link_found e ∙ ap (λ (f : Found). link_found (word_found f)) is.found; small = is.small; is_code = is.is_code }
+
+-- what was found at the four places of a node is the node
+pub node_found : {D : Type 0} (layouts : Layouts) (s : StoreView D) (word : ℕ) (key value left right : Found) (n m : ℤ) (a b : ℕ)
+    → n ≡ number_found key → m ≡ number_found value → a ≡ word_found left → b ≡ word_found right
+    → FindsValueIn D layouts s word 0 key → FindsValueIn D layouts s word 1 value → FindsValueIn D layouts s word 3 left → FindsValueIn D layouts s word 4 right
+    → FindsNode D layouts s word (record { key = to_z w64 (of_z w64 n); value = to_z w64 (of_z w64 m); left = a; right = b })
+node_found layouts s word key value left right n m a b key_is value_is a_is b_is find_key find_value find_left find_right t place ty x k v y holds has =
+    let the = found_node t place ty word x k v y has in
+    record {
+      key_is = number_kept n k the.key_bits (key_is ∙ found_number (naming place s.ids) key the.key_bits (find_key t place _ holds (has_in t place ty word x k v y has 0 _ refl))) the.key_is;
+      value_is = number_kept m v the.value_bits (value_is ∙ found_number (naming place s.ids) value the.value_bits (find_value t place _ holds (has_in t place ty word x k v y has 1 _ refl))) the.value_is;
+      key_fits = number_fits k the.key_bits the.key_is;
+      value_fits = number_fits v the.value_bits the.value_is;
+      left = record { root = has.is.left; stands = word_stands (naming place s.ids) left a has.is.left a_is (find_left t place _ holds (has_in t place ty word x k v y has 3 _ refl)); is = has.is.is_left };
+      right = record { root = has.is.right; stands = word_stands (naming place s.ids) right b has.is.right b_is (find_right t place _ holds (has_in t place ty word x k v y has 4 _ refl)); is = has.is.is_right };
+    }
+
+-- Giving roots for the links of a node that was found
+
+-- a reference that was found is one in a later store too, where objects lie as they lay
+pub still_found : (place : Placing) (ids ids' : InternedIds) (x : Found) (r : Reference) → FoundStands (naming place ids) x (reference Any r) → FoundStands (naming place ids') x (reference Any r)
+still_found place ids ids' x r is = record { code = is.code; found = is.found; small = is.small; is_code = is.is_code }
+
+module _ {D : Type 0} (layouts : Layouts) (s s1 : StoreView D) (same : IsSameStore s s1) (link : Found) (answer : Result (Option GcRootIndex) ListFault) where
+  -- what giving a root for a link does
+  abbrev pub GivesRoot : Type 0
+  GivesRoot = (t : Table D) (place : Placing) (r : Reference) → Holds layouts s t place → FoundStands (naming place s.ids) link (reference Any r) → EndsReading layouts 1 t (GivesLink layouts place r) answer s1
+
+module _ {D : Type 0} (layouts : Layouts) (t : Table D) (place : Placing) (ty : ℕ) (found : FoundNode) (x : Tree) (k v : ℤ) (y : Tree)
+    (s s1 : StoreView D) (same : IsSameStore s s1) (holds : Holds layouts s t place) (is : NodeFound (naming place s.ids) t ty found x k v y) where
+  pub left_refused : (f : ListFault) → GivesRoot layouts s s1 same (link_found found.left) (Err f) → (DoneB : StoreView D → Table D → Node → Type 0) → EndsReading layouts 2 t DoneB (Err f) s1
+  left_refused f gives DoneB =
+      refused_later {A = Option GcRootIndex} layouts 1 1 t t (GivesLink layouts place is.left.root) DoneB f s1 (pushes_none 1 t) (gives t place is.left.root holds is.left.stands)
+
+  module _ (left : Option GcRootIndex) (gives : GivesRoot layouts s s1 same (link_found found.left) (Ok left)) where
+    abbrev pub ends1 : Leaves layouts (λ u. Pushes 1 t u × GivesLink layouts place is.left.root s1 u left) s1
+    ends1 = gives t place is.left.root holds is.left.stands
+
+    -- the other link may be given a root
+    pub right_here : IsFoundHere D layouts s1 (link_found found.right)
+    right_here = record { table = ends1.after; place = place; holds = ends1.changed.1.1; value = reference Any is.right.root; stands = still_found place s.ids s1.ids (link_found found.right) is.right.root is.right.stands }
 
     module _ (s2 : StoreView D) (same2 : IsSameStore s1 s2) where
-      pub right_refused : (f : ListFault) → ReadsLink layouts h s1 s2 same2 (Err f) 4 → (DoneB : StoreView D → Table D → Node → Type 0) → EndsReading layouts 2 t DoneB (Err f) s2
+      pub right_refused : (f : ListFault) → GivesRoot layouts s1 s2 same2 (link_found found.right) (Err f) → (DoneB : StoreView D → Table D → Node → Type 0) → EndsReading layouts 2 t DoneB (Err f) s2
       right_refused f next DoneB =
-          let ends = next mid ends1.account here1.is.is.right here1.holds (has layouts mid ends1.account ty h x k v y s1 here1 4 _ refl) in
-          refused_later {A = Option GcRootIndex} layouts 1 1 t mid (λ s u link. NamesLink s u link here1.is.is.right) DoneB f s2 ends1.changed.0 ends
+          refused_later {A = Option GcRootIndex} layouts 1 1 t ends1.after (GivesLink layouts place is.right.root) DoneB f s2 ends1.changed.0
+          (next ends1.after place is.right.root ends1.changed.1.1 (still_found place s.ids s1.ids (link_found found.right) is.right.root is.right.stands))
 
-      pub right_read : (right : Option GcRootIndex) → ReadsLink layouts h s1 s2 same2 (Ok right) 4 → (n m : ℤ) → n ≡ k → m ≡ v
-          → EndsReading layouts 2 t (λ s u read. NodeIs s u ty read x k v y) (Ok (record { key = n; value = m; left = left; right = right })) s2
-      right_read right next n m is_key is_value =
-          let ends = next mid ends1.account here1.is.is.right here1.holds (has layouts mid ends1.account ty h x k v y s1 here1 4 _ refl) in
-          let keeps2 = pushes_keep 1 s1 mid s2 ends.after same2 ends.changed.0 in
-          let the = here.is.is.is_node in
+      pub both_given : (right : Option GcRootIndex) → GivesRoot layouts s1 s2 same2 (link_found found.right) (Ok right)
+          → EndsReading layouts 2 t (λ s u read. NodeIs s u ty read x k v y) (Ok (record { key = to_z w64 (of_z w64 found.key); value = to_z w64 (of_z w64 found.value); left = left; right = right })) s2
+      both_given right next =
+          let ends = next ends1.after place is.right.root ends1.changed.1.1 (still_found place s.ids s1.ids (link_found found.right) is.right.root is.right.stands) in
+          let keeps1 = pushes_keep 1 s t s1 ends1.after same ends1.changed.0 in
+          let keeps2 = pushes_keep 1 s1 ends1.after s2 ends.after same2 ends.changed.0 in
           record {
             after = ends.after;
             account = ends.account;
             holds = ends.holds;
             changed = (
-              pushes_then 1 1 t mid ends.after ends1.changed.0 ends.changed.0,
+              pushes_then 1 1 t ends1.after ends.after ends1.changed.0 ends.changed.0,
               record {
-                key_is = is_key;
-                value_is = is_value;
-                key_fits = number_fits k the.key_bits the.key_is;
-                value_fits = number_fits v the.value_bits the.value_is;
+                key_is = number_passed found.key k is.key_is is.key_fits;
+                value_is = number_passed found.value v is.value_is is.value_fits;
+                key_fits = is.key_fits;
+                value_fits = is.value_fits;
                 left = record {
-                  reference = here.is.is.left;
-                  names = link_kept s1 mid s2 ends.after keeps2 left here.is.is.left ends1.changed.1;
-                  is = tree_kept s1 mid s2 ends.after keeps2 ty x here.is.is.left (tree_kept s t s1 mid keeps1 ty x here.is.is.left here.is.is.is_left);
+                  reference = is.left.root;
+                  names = link_kept s1 ends1.after s2 ends.after keeps2 left is.left.root ends1.changed.1.0;
+                  is = tree_kept s1 ends1.after s2 ends.after keeps2 ty x is.left.root (tree_kept s t s1 ends1.after keeps1 ty x is.left.root is.left.is);
                 };
                 right = record {
-                  reference = here1.is.is.right;
-                  names = ends.changed.1;
-                  is = tree_kept s1 mid s2 ends.after keeps2 ty y here1.is.is.right here1.is.is.is_right;
+                  reference = is.right.root;
+                  names = ends.changed.1.0;
+                  is = tree_kept s1 ends1.after s2 ends.after keeps2 ty y is.right.root (tree_kept s t s1 ends1.after keeps1 ty y is.right.root is.right.is);
                 };
               },
             );

@@ -1,6 +1,7 @@
 pub mod Trees
 pub mod Maps
 pub mod Parts
+pub mod FoundNodes
 pub mod Ends
 pub mod Searching
 pub mod Answers

@@ -18,6 +18,15 @@ pub(crate) struct Node {
     pub(crate) right: Option<GcRootIndex>,
 }
 
+/// What was found of a node: its key, its value, and the words of its children, which have no roots yet.
+#[derive(Clone, Copy, Debug)]
+pub(crate) struct FoundNode {
+    pub(crate) key: i64,
+    pub(crate) value: i64,
+    pub(crate) left: u32,
+    pub(crate) right: u32,
+}
+
 /// A node with its children as parts.
 #[derive(Clone, Copy, Debug)]
 pub(crate) struct Opened {

@@ -2,21 +2,25 @@
 
 ghost use Rattle.std.specs.Prelude.{◌≡◌, ◌<◌, ◌^◌, ℕ, ℤ, pos, Some};
 ghost use Rattle.gc_owner.specs.declared.entry.GcClass.TheVariants.{Any};
-ghost use Rattle.gc_model.specs.Values.{Reference, numeric, i32, i64, reference};
+ghost use Rattle.gc_model.specs.Values.{Reference, numeric, i32, reference};
 ghost use Rattle.gc_model.specs.Table.{Table};
+ghost use Rattle.gc_model.specs.Forms.{naming};
+ghost use Rattle.gc_model.specs.Holds.{Holds, Placing};
 ghost use Rattle.gc_policy.specs.Accounts.{Account, HoldsAccount};
 ghost use Rattle.gc_store.specs.Roots.{CanRead, HasValue};
 ghost use Rattle.gc_store.specs.Stores.{IsSameStore};
-ghost use Rattle.gc_lists.specs.Cells.{number_of};
+ghost use Rattle.gc_store.specs.Reading.{IsFoundHere};
+ghost use Rattle.gc_values.specs.Kept.{FoundStands};
 ghost use Rattle.gc_maps.specs.Ends.{EndsReading};
-ghost use Rattle.gc_maps.specs.Parts.{int_in, NamesLink, RootIs, PartIs, NodeIs, OpenedIs, NodeIn, LowNodeIn, RootIn, node_of};
+ghost use Rattle.gc_maps.specs.FoundNodes.{link_found, number_found, word_found, NodeWordIn, FindsNode, NodeFound, NodeFoundIn, GivesLink};
+ghost use Rattle.gc_maps.specs.Parts.{int_in, RootIs, PartIs, NodeIs, OpenedIs, NodeIn, LowNodeIn, RootIn, node_of};
 ghost use Rattle.gc_maps.specs.Trees.{Tree, height};
 
-use crate::part::{Node, Opened, Part};
+use crate::part::{FoundNode, Node, Opened, Part};
 use gc_heap::GcHeap;
 use gc_lists::ListFault;
 use gc_lists::roots::{number_in, refused};
-use gc_store::{GcRootIndex, RawValue, Store};
+use gc_store::{Found, GcClass, GcRootIndex, RawValue, Store};
 
 /// Where a node has its key, its value, its height and its children.
 const KEY: u32 = 0;
@@ -40,21 +44,14 @@ fn int_in(value: &RawValue) -> i32
     }
 }
 
-/// The 64-bit integer at that index of an object.
+/// The 64-bit integer that was found in an object; 0 where it is none.
 #[inline(always)]
-pub(crate) fn read_long<H: GcHeap, D: Drop>(
-    store: &mut Store<H, D>,
-    object: GcRootIndex,
-    index: u32,
-) -> i64
-    requires { CanRead D H.KIND store.old object index }
-    ensures reads { (t : Table D) (a : Account) (bits : ℕ) → HoldsAccount H.KIND store.old t a → HasValue store.old t object index (numeric i64 bits)
-        → (result ≡ number_of bits) × HoldsAccount H.KIND store.new t a }
-    ensures same { IsSameStore store.old store.new }
+fn number_found(found: &Found) -> i64
+    ensures { result ≡ number_found found.now }
 {
-    match store.read_value(object, index) {
-        Ok(value) => number_in(&value),
-        Err(_) => 0,
+    match found {
+        Found::Number(value) => number_in(value),
+        _ => 0,
     }
 }
 
@@ -76,21 +73,76 @@ pub(crate) fn read_int<H: GcHeap, D: Drop>(
     }
 }
 
-/// A root of what the link at that index of an object names; none where it is null.
+/// The word of the reference that was found in an object; 0 where it is none.
 #[inline(always)]
-pub(crate) fn read_link<H: GcHeap, D: Drop>(
+fn word_found(found: &Found) -> u32
+    ensures { result ≡ word_found found.now }
+{
+    match found {
+        Found::Ref(_, word) => *word,
+        _ => 0,
+    }
+}
+
+/// A root of what a link with that word names; none where it is null.
+#[inline(always)]
+fn link_of<H: GcHeap, D: Drop>(
     store: &mut Store<H, D>,
-    object: GcRootIndex,
-    index: u32,
+    word: u32,
 ) -> Result<Option<GcRootIndex>, ListFault>
-    requires { CanRead D H.KIND store.old object index }
-    ensures reads { (t : Table D) (a : Account) (r : Reference) → HoldsAccount H.KIND store.old t a → HasValue store.old t object index (reference Any r)
-        → EndsReading H.KIND 1 t (λ s u link. NamesLink s u link r) result store.new }
+    requires { IsFoundHere D H.KIND store.old (link_found word) }
+    ensures reads { (t : Table D) (place : Placing) (r : Reference) → Holds H.KIND store.old t place
+        → FoundStands (naming place store.old.ids) (link_found word) (reference Any r) → EndsReading H.KIND 1 t (GivesLink H.KIND place r) result store.new }
     ensures same { IsSameStore store.old store.new }
 {
-    match store.read_value(object, index) {
+    match store.give_found(Found::Ref(GcClass::Any, word)) {
         Ok(value) => Ok(value.handle()),
         Err(fault) => Err(refused(fault)),
+    }
+}
+
+/// What lies in the node that has that word.
+#[inline(always)]
+fn find_node<H: GcHeap, D: Drop>(store: &Store<H, D>, word: u32) -> FoundNode
+    requires { NodeWordIn D H.KIND store.now word }
+    ensures { FindsNode D H.KIND store.now word result }
+{
+    let key = store.found_in(word, KEY);
+    let value = store.found_in(word, VALUE);
+    let left = store.found_in(word, LEFT);
+    let right = store.found_in(word, RIGHT);
+    FoundNode {
+        key: number_found(&key),
+        value: number_found(&value),
+        left: word_found(&left),
+        right: word_found(&right),
+    }
+}
+
+/// What was found of a node, with a root for each of its children.
+#[inline(always)]
+fn give_node<H: GcHeap, D: Drop>(
+    store: &mut Store<H, D>,
+    found: FoundNode,
+) -> Result<Node, ListFault>
+    requires { NodeFoundIn D H.KIND store.old found }
+    ensures reads { (t : Table D) (place : Placing) (ty : ℕ) (x : Tree) (k v : ℤ) (y : Tree) → Holds H.KIND store.old t place
+        → NodeFound (naming place store.old.ids) t ty found x k v y
+        → EndsReading H.KIND 2 t (λ s u read. NodeIs s u ty read x k v y) result store.new }
+    ensures same { IsSameStore store.old store.new }
+{
+    let left = match link_of(store, found.left) {
+        Ok(left) => left,
+        Err(fault) => return Err(fault),
+    };
+    match link_of(store, found.right) {
+        Ok(right) => Ok(Node {
+            key: found.key,
+            value: found.value,
+            left,
+            right,
+        }),
+        Err(fault) => Err(fault),
     }
 }
 
@@ -106,21 +158,13 @@ pub(crate) fn read_node<H: GcHeap, D: Drop>(
         → EndsReading H.KIND 2 t (λ s u read. NodeIs s u ty read x k v y) result store.new }
     ensures same { IsSameStore store.old store.new }
 {
-    let key = read_long(store, node, KEY);
-    let value = read_long(store, node, VALUE);
-    let left = match read_link(store, node, LEFT) {
-        Ok(left) => left,
-        Err(fault) => return Err(fault),
+    // the word finds the node once for all that is read of it, before a root is made
+    let word = match store.word(node) {
+        Ok(word) => word,
+        Err(_) => unreachable!(),
     };
-    match read_link(store, node, RIGHT) {
-        Ok(right) => Ok(Node {
-            key,
-            value,
-            left,
-            right,
-        }),
-        Err(fault) => Err(fault),
-    }
+    let found = find_node(store, word);
+    give_node(store, found)
 }
 
 /// A part by its root.

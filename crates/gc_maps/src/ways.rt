@@ -51,6 +51,9 @@ fn frame_of(node: &Node, order: Ordering) -> Frame
     }
 }
 
+/// A path gets room for so many frames at once: no tree of 4,000 nodes is higher, so most paths take memory once.
+const USUAL_HEIGHT: usize = 16;
+
 /// Goes down to a key, and answers its node, where there is one. The path takes a frame for each node above it.
 pub(crate) fn descend<H: GcHeap, D: Drop>(
     store: &mut Store<H, D>,
@@ -65,6 +68,9 @@ pub(crate) fn descend<H: GcHeap, D: Drop>(
         → EndsReading H.KIND 184 t (λ s u found. Descended s u ty tree key path.new.items found) result store.new }
     ensures same { IsSameStore store.old store.new }
 {
+    if path.reserve(USUAL_HEIGHT).is_err() {
+        return Err(ListFault::Memory);
+    }
     let mut here = root;
     for _turn in 0..MOST_HEIGHT {
         let handle = match here {

@@ -12,7 +12,7 @@ use Rattle.gc_maps.specs.Paths.{Descended}
 use Rattle.gc_maps.proofs.Descending.{Descends, begun, nothing_there, too_far, node_there, node_refused, wanting, found_there, gone_on}
 use Rattle.gc_maps.specs.Searching.{IsSearch}
 use Rattle.gc_maps.specs.Trees.{Tree}
-use Rattle.gc_maps.proofs.Growing.{same_then}
+use Rattle.gc_maps.proofs.Growing.{pushes_none, same_then}
 use Rattle.gc_maps.proofs.ways.descend.Given as given
 use Rattle.gc_maps.proofs.ways.descend.Goals as goal
 use Rattle.gc_maps.proofs.ways.descend.Goals.{In-Some, After-loop-turn}
@@ -20,10 +20,13 @@ use Rattle.gc_maps.proofs.ways.descend.Goals.{In-Some, After-loop-turn}
 pub loop-turn-init : goal.loop-turn-init
 loop-turn-init g c = record {
   descends = λ t a ty tree holds is search.
-      subst (λ (z : ℤ). Descends g.H.GcHeap.KIND t ty tree z 0 c.args.path.now.items c.args.store.now c.args.root) (sym (to_z-of_z w64 c.args.key c.ranges.key))
-      (begun g.H.GcHeap.KIND t ty tree c.args.key a c.args.store.now c.args.root c.args.path.now.items c.requires.begins holds is search);
+      subst (λ (z : ℤ). Descends g.H.GcHeap.KIND t ty tree z 0 c.reserve.new.self.items c.args.store.now c.args.root) (sym (to_z-of_z w64 c.args.key c.ranges.key))
+      (begun g.H.GcHeap.KIND t ty tree c.args.key a c.args.store.now c.args.root c.reserve.new.self.items (c.reserve.ensures.items ∙ c.requires.begins) holds is search);
   same = record { engine = refl; number = refl; counter = refl };
 }
+
+pub returns-then-is_err-clause-descends : goal.returns-then-is_err-clause-descends
+returns-then-is_err-clause-descends g c t a ty tree holds is search = record { after = t; account = a; holds = holds; changed = pushes_none 184 t }
 
 -- how far the way has come
 so_far : (g : given.Over) (c : After-loop-turn g) (t : Table g.row.D.Denot) (a : Account) (ty : ℕ) (tree : Tree) (holds : HoldsAccount g.H.GcHeap.KIND c.args.store.now t a)
@@ -70,10 +73,10 @@ returns-then-is_eq-clause-descends g c t a ty tree holds is search =
     found_there g.H.GcHeap.KIND t ty tree c.args.key c.loop-turn._turn c.loop-turn.path.items c.loop-turn.store c.in-Some.handle c.read_node.new.store c.in-Ok.node c.in-Ok.ensures.reads c.read_node.ensures.same
     c.cmp-order.result (c.cmp-order.ensures ∙ ap (λ (z : ℤ). int_cmp z c.in-Ok.node.key) (to_z-of_z w64 c.args.key c.ranges.key)) (sym c.is_eq.ensures ∙ c.if-is_eq.true) below (at_some g before t a ty tree holds is search)
 
-pub returns-then-is_err-clause-descends : goal.returns-then-is_err-clause-descends
-returns-then-is_err-clause-descends g c t a ty tree holds is search =
+pub returns-then-is_err-2-clause-descends : goal.returns-then-is_err-2-clause-descends
+returns-then-is_err-2-clause-descends g c t a ty tree holds is search =
     let below : c.loop-turn._turn < 92 = omega arith in
-    let before = (goal.at.returns-then-is_err-clause-descends g c).In-Some in
+    let before = (goal.at.returns-then-is_err-2-clause-descends g c).In-Some in
     wanting g.H.GcHeap.KIND t ty tree c.args.key c.loop-turn._turn c.loop-turn.path.items c.loop-turn.store c.in-Some.handle c.read_node.new.store c.in-Ok.node c.in-Ok.ensures.reads c.read_node.ensures.same
     below (at_some g before t a ty tree holds is search)
 
@@ -92,7 +95,7 @@ loop-turn-preserved g c = record {
       (sym c.is_eq.ensures ∙ c.if-is_eq.false) (at_some g before t a ty tree holds is search) in
       subst (λ (z : ℤ). Descends g.H.GcHeap.KIND t ty tree z (c.loop-turn._turn + 1) c.push.new.self.items c.read_node.new.store c.toward-here.result) (sym (to_z-of_z w64 c.args.key c.ranges.key))
       (subst (λ (fs : List Frame). Descends g.H.GcHeap.KIND t ty tree c.args.key (c.loop-turn._turn + 1) fs c.read_node.new.store c.toward-here.result)
-      (pushed c.push.result (c.loop-turn.path.items ++ c.frame_of-frame.result ∷ []) c.loop-turn.path.items c.push.new.self.items (sym c.is_err.ensures.value ∙ c.if-is_err.false) c.push.ensures.items)
+      (pushed c.push.result (c.loop-turn.path.items ++ c.frame_of-frame.result ∷ []) c.loop-turn.path.items c.push.new.self.items (sym c.is_err-in-loop-turn.ensures.value ∙ c.if-is_err-2.false) c.push.ensures.items)
       (subst (λ (h : Option GcRootIndex). Descends g.H.GcHeap.KIND t ty tree c.args.key (c.loop-turn._turn + 1) (c.loop-turn.path.items ++ c.frame_of-frame.result ∷ []) c.read_node.new.store h) (sym c.toward-here.ensures) next));
   same = same_then c.args.store.now c.loop-turn.store c.read_node.new.store c.loop-turn.invariant.same c.read_node.ensures.same;
 }
