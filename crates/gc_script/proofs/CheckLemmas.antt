@@ -1,5 +1,5 @@
 -- Values that are checked one after the other.
-use Rattle.std.proofs.Common.{inl, inr, Bool, false, ◌≡◌, ℕ, ◌<◌, ◌≤◌, List, [], ◌∷◌, ◌++◌, drop, length, Option, Some, sym, ap, ◌∙◌, refl, subst, arith, zero, suc}
+use Rattle.std.proofs.Common.{inl, inr, Bool, true, false, not, if◌then◌else◌, ◌≡◌, ℕ, ◌<◌, ◌≤◌, List, [], ◌∷◌, ◌++◌, drop, length, Option, Some, None, sym, ap, ◌∙◌, refl, subst, arith, zero, suc}
 use Rattle.std.specs.Prelude.{◌⊎◌, Result, Ok, Err, IsErrAnd}
 use Rattle.std.specs.List.{slice_get}
 use Rattle.std.specs.Option.{option_map}
@@ -10,18 +10,21 @@ use Rattle.std.proofs.lemmas.Option.{none-some, slice_get-map, slice_get_within}
 use Rattle.gc_types.specs.declared.kind.Layouts.{Layouts}
 use Rattle.gc_types.specs.declared.value.FieldType.{FieldType}
 use Rattle.gc_types.specs.Declarations.{Declaration}
+use Rattle.gc_model.specs.Fits.{fits}
 use Rattle.gc_model.specs.Stores.{StoreView}
+use Rattle.gc_model.specs.Values.{Value}
 use Rattle.gc_model.specs.Holds.{HoldsTable}
 use Rattle.gc_values.specs.declared.root.RawValue.{RawValue}
 use Rattle.gc_store.specs.Values.{RawStands, AllStand}
 use Rattle.gc_commands.specs.declared.command.Operand.{Operand}
 use Rattle.gc_commands.specs.declared.reply.Refusal.{Refusal}
+use Rattle.gc_commands.specs.declared.reply.Refusal.TheVariants as refusal
 use Rattle.gc_script.specs.declared.objects.ValueTypes.{ValueTypes}
 use Rattle.gc_script.specs.State.{State, RegisterStands}
-use Rattle.gc_script.specs.Given.{held_operand, given, given_value, given_values}
-use Rattle.gc_script.specs.Steps.{first_failing, value_tests}
+use Rattle.gc_script.specs.Given.{Given, held_operand, given, given_value, given_values}
+use Rattle.gc_script.specs.Steps.{first_failing, given_tests, value_tests}
 use Rattle.gc_script.specs.Named.{type_at}
-use Rattle.gc_script.specs.Values.{AllHeld, is_opaque, AllPlain, CanStoreRaw, AllRawStorable, ChecksOperand, typed_tests, ChecksOperands}
+use Rattle.gc_script.specs.Values.{AllHeld, IsFoundLive, is_opaque, AllPlain, CanStoreRaw, AllRawStorable, ChecksOperand, typed_tests, ChecksOperands}
 use Rattle.gc_script.proofs.TestLemmas.{passes_all, stops_all}
 
 -- what is left from an element on
@@ -162,3 +165,21 @@ module _ (layouts : Layouts) (store : StoreView ℕ) (types : ValueTypes) (raws 
           so_far.passed s vs holds are ∙ ap (λ (ws : List Operand). first_failing (tests_at s i ws)) (drop_all i vs (omega (arith, many, all))),
           checked_stand s vs holds are,
         )
+
+-- What names nothing is checked by its type alone.
+module _ (store : StoreView ℕ) (s : State) (field : FieldType) (v : Operand) (r : RawValue) (fit : Bool) (found : IsFoundLive store s.table r (given s v) true)
+    (fit_is : (x : Value) → RawStands store s.table r x → fit ≡ fits s.table.types s.table.objects field.element_type x) where
+  abbrev failing : Given → Option Refusal
+  failing g = first_failing (given_tests s.table.types s.table.objects (Some field) g)
+
+  abbrev refused_unless : Bool → Option Refusal
+  refused_unless b = if not b then Some refusal.TypeMismatch else None
+
+  failing_is : failing (given s v) ≡ refused_unless fit
+  failing_is = ap failing found.1.0 ∙ ap refused_unless (sym (fit_is found.0 found.1.1))
+
+  pub passes_alone : fit ≡ true → ChecksOperand store s (Some field) v r (Ok tt)
+  passes_alone is = (failing_is ∙ ap refused_unless is, subst (λ (g : Given). RawStands store s.table r (given_value g)) (sym found.1.0) found.1.1)
+
+  pub stops_alone : fit ≡ false → ChecksOperand store s (Some field) v r (Err refusal.TypeMismatch)
+  stops_alone is = failing_is ∙ ap refused_unless is

@@ -1,6 +1,6 @@
 //! The registers of a session.
 
-ghost use Rattle.std.specs.Prelude.{◌≡◌, ◌≢◌, ◌<◌, ◌≤◌, ℕ, length, Some, None, OnOk, OnErr, [], slice_set};
+ghost use Rattle.std.specs.Prelude.{◌≡◌, ◌≢◌, ◌<◌, ◌≤◌, ℕ, length, Some, None, OnOk, OnErr, [], option_copied, slice_set};
 ghost use Rattle.gc_script.specs.Slots.{register_at};
 
 use gc_store::RawValue;
@@ -54,6 +54,17 @@ impl Registers {
     {
         match self.slots.get(number as usize) {
             Some(slot) => *slot,
+            None => None,
+        }
+    }
+
+    /// What the register holds, where it lies.
+    #[inline(always)]
+    pub(crate) fn held(&self, number: u16) -> Option<&RawValue>
+        ensures { option_copied result ≡ register_at self.now number }
+    {
+        match self.slots.get(number as usize) {
+            Some(slot) => slot.as_ref(),
             None => None,
         }
     }

@@ -1,11 +1,13 @@
 //! The values that commands give, by operands and registers.
 
-ghost use Rattle.std.specs.Prelude.{◌≡◌, ℕ, false, List, Option, Some, is_ok, IsTrue, OnOk, IfOk};
+ghost use Rattle.std.specs.Prelude.{◌≡◌, ℕ, false, List, Option, None, Some, is_ok, IsTrue, OnOk, IfOk};
 ghost use Rattle.gc_model.specs.Holds.{HoldsTable};
 ghost use Rattle.gc_model.specs.Table.{Table};
 ghost use Rattle.gc_commands.specs.declared.command.Operand.{Operand};
+ghost use Rattle.gc_commands.specs.declared.command.Operand.TheVariants as operand;
 ghost use Rattle.gc_store.specs.Values.{NamesLive};
 ghost use Rattle.gc_values.specs.RawValues.{raw_handle};
+ghost use Rattle.gc_script.specs.Named.{type_at};
 ghost use Rattle.gc_script.specs.State.{State, Held, RegisterStands};
 ghost use Rattle.gc_script.specs.Given.{held_operand, given_held};
 ghost use Rattle.gc_script.specs.Values.{HoldsOperand, raw_operand, set_operand, set_operands, HasUnset, AreSet, AllHeld};
@@ -40,17 +42,6 @@ pub(crate) fn operand_value(registers: &Registers, operand: &Operand) -> Option<
     }
 }
 
-/// What an operand holds; null where it is a register that is unset.
-#[inline(always)]
-fn value_or_null(registers: &Registers, operand: &Operand) -> RawValue
-    ensures { result ≡ set_operand registers.now operand.now }
-{
-    match operand_value(registers, operand) {
-        Some(value) => value,
-        None => RawValue::Ref(GcClass::Any, None),
-    }
-}
-
 /// Whether some operand is a register that is unset.
 #[inline(always)]
 pub(crate) fn any_unset(registers: &Registers, operands: &[Operand]) -> bool
@@ -65,6 +56,28 @@ pub(crate) fn any_unset(registers: &Registers, operands: &[Operand]) -> bool
     false
 }
 
+/// Puts what an operand holds into a place; null where it is a register that is unset.
+// Each arm writes by itself: else a value of any kind is put together first, and then copied.
+#[inline(always)]
+fn put_operand(place: &mut RawValue, registers: &Registers, operand: &Operand)
+    ensures { place.new ≡ set_operand registers.now operand.now }
+{
+    match *operand {
+        Operand::I32(number) => *place = RawValue::I32(number),
+        Operand::I64(number) => *place = RawValue::I64(number),
+        Operand::F32(bits) => *place = RawValue::F32(bits),
+        Operand::F64(bits) => *place = RawValue::F64(bits),
+        Operand::V128(bits) => *place = RawValue::V128(bits),
+        Operand::AnyNull => *place = RawValue::Ref(GcClass::Any, None),
+        Operand::ExternNull => *place = RawValue::Ref(GcClass::Extern, None),
+        Operand::ExnNull => *place = RawValue::Ref(GcClass::Exn, None),
+        Operand::Register(register) => match registers.held(register) {
+            Some(value) => *place = *value,
+            None => *place = RawValue::Ref(GcClass::Any, None),
+        },
+    }
+}
+
 /// Makes a list that of the values of operands, none of which is a register that is unset. Its room is used again.
 #[inline(always)]
 pub(crate) fn give_values(
@@ -74,10 +87,12 @@ pub(crate) fn give_values(
 ) -> Result<(), AllocError>
     ensures { OnOk result (values.new.items ≡ set_operands registers.now operands.now) }
 {
-    let null = RawValue::Ref(GcClass::Any, None);
-    values.resize(operands.len(), null)?;
+    if values.len() != operands.len() {
+        let null = RawValue::Ref(GcClass::Any, None);
+        values.resize(operands.len(), null)?;
+    }
     for (index, operand) in operands.iter().enumerate() {
-        values[index] = value_or_null(registers, operand);
+        put_operand(&mut values[index], registers, operand);
     }
     Ok(())
 }
@@ -167,6 +182,118 @@ pub(crate) fn check_value<H: GcHeap>(
     }
 }
 
+/// Whether a number or null may go into a field or an element of that type, as `check_value` says.
+#[inline(always)]
+fn check_plain<H: GcHeap>(
+    store: &Store<H, u64>,
+    field: Option<FieldType>,
+    value: &RawValue,
+) -> Result<(), Refusal>
+    requires unnamed { raw_handle value.now ≡ None }
+    requires plain { is_opaque value.now ≡ false }
+    ensures stores { OnOk result (CanStoreRaw H.KIND store.now field value.now) }
+    ensures checks { (s : State) (v : Operand) → HoldsTable H.KIND store.now s.table → RegisterStands store.now s.table (Some value.now) (held_operand s v)
+        → ChecksOperand store.now s field v value.now result }
+{
+    let field = match field {
+        Some(field) => field,
+        None => return Err(Refusal::TypeMismatch),
+    };
+    if fits(store, field.element_type, value, &None) {
+        Ok(())
+    } else {
+        Err(Refusal::TypeMismatch)
+    }
+}
+
+/// Whether what a register holds, null where it is unset, may go into a field or an element of that type, as `check_value`
+/// says. It is tested where it lies.
+#[inline(always)]
+fn check_register<H: GcHeap>(
+    store: &Store<H, u64>,
+    registers: &Registers,
+    field: Option<FieldType>,
+    register: u16,
+) -> Result<(), Refusal>
+    ensures stores { OnOk result (CanStoreRaw H.KIND store.now field (set_operand registers.now (operand.Register register))) }
+    ensures plain { OnOk result (is_opaque (set_operand registers.now (operand.Register register)) ≡ false) }
+    ensures checks { (s : State) (v : Operand) → HoldsTable H.KIND store.now s.table
+        → RegisterStands store.now s.table (Some (set_operand registers.now (operand.Register register))) (held_operand s v)
+        → ChecksOperand store.now s field v (set_operand registers.now (operand.Register register)) result }
+{
+    match registers.held(register) {
+        Some(value) => check_value(store, field, value),
+        None => check_plain(store, field, &RawValue::Ref(GcClass::Any, None)),
+    }
+}
+
+/// Whether what an operand holds may go into a field or an element of that type, as `check_value` says.
+#[inline(always)]
+fn check_operand<H: GcHeap>(
+    store: &Store<H, u64>,
+    registers: &Registers,
+    field: Option<FieldType>,
+    operand: &Operand,
+) -> Result<(), Refusal>
+    ensures stores { OnOk result (CanStoreRaw H.KIND store.now field (set_operand registers.now operand.now)) }
+    ensures plain { OnOk result (is_opaque (set_operand registers.now operand.now) ≡ false) }
+    ensures checks { (s : State) (v : Operand) → HoldsTable H.KIND store.now s.table
+        → RegisterStands store.now s.table (Some (set_operand registers.now operand.now)) (held_operand s v)
+        → ChecksOperand store.now s field v (set_operand registers.now operand.now) result }
+{
+    match *operand {
+        Operand::I32(number) => check_plain(store, field, &RawValue::I32(number)),
+        Operand::I64(number) => check_plain(store, field, &RawValue::I64(number)),
+        Operand::F32(bits) => check_plain(store, field, &RawValue::F32(bits)),
+        Operand::F64(bits) => check_plain(store, field, &RawValue::F64(bits)),
+        Operand::V128(bits) => check_plain(store, field, &RawValue::V128(bits)),
+        Operand::AnyNull => check_plain(store, field, &RawValue::Ref(GcClass::Any, None)),
+        Operand::ExternNull => check_plain(store, field, &RawValue::Ref(GcClass::Extern, None)),
+        Operand::ExnNull => check_plain(store, field, &RawValue::Ref(GcClass::Exn, None)),
+        Operand::Register(register) => check_register(store, registers, field, register),
+    }
+}
+
+/// As `check_operand`, where it is not to be put in place.
+#[inline(never)]
+fn check_apart<H: GcHeap>(
+    store: &Store<H, u64>,
+    registers: &Registers,
+    field: Option<FieldType>,
+    operand: &Operand,
+) -> Result<(), Refusal>
+    ensures stores { OnOk result (CanStoreRaw H.KIND store.now field (set_operand registers.now operand.now)) }
+    ensures plain { OnOk result (is_opaque (set_operand registers.now operand.now) ≡ false) }
+    ensures checks { (s : State) (v : Operand) → HoldsTable H.KIND store.now s.table
+        → RegisterStands store.now s.table (Some (set_operand registers.now operand.now)) (held_operand s v)
+        → ChecksOperand store.now s field v (set_operand registers.now operand.now) result }
+{
+    check_operand(store, registers, field, operand)
+}
+
+/// Whether what an operand holds may go into the field or the element of that index, as `check_value` says.
+// Where there is a type, which is so of each index that a command comes to, the test knows that there is one.
+#[inline(always)]
+fn check_at<H: GcHeap>(
+    store: &Store<H, u64>,
+    registers: &Registers,
+    types: &ValueTypes,
+    index: usize,
+    operand: &Operand,
+) -> Result<(), Refusal>
+    ensures stores { OnOk result (CanStoreRaw H.KIND store.now (type_at store.now.types types.now index) (set_operand registers.now operand.now)) }
+    ensures plain { OnOk result (is_opaque (set_operand registers.now operand.now) ≡ false) }
+    ensures checks { (s : State) (v : Operand) → HoldsTable H.KIND store.now s.table
+        → RegisterStands store.now s.table (Some (set_operand registers.now operand.now)) (held_operand s v)
+        → ChecksOperand store.now s (type_at store.now.types types.now index) v (set_operand registers.now operand.now) result }
+{
+    let field = type_at(store, types, index);
+    match field {
+        Some(_) => check_operand(store, registers, field, operand),
+        None => check_apart(store, registers, field, operand),
+    }
+}
+
 /// Whether the values of operands, none of which is a register that is unset, may go into fields or elements of these
 /// types; the first that may not says why.
 #[inline(always)]
@@ -182,8 +309,7 @@ pub(crate) fn check_operands<H: GcHeap>(
         → ChecksOperands store.now s types.now vs (set_operands registers.now operands.now) result }
 {
     for (index, operand) in operands.iter().enumerate() {
-        let value = value_or_null(registers, operand);
-        check_value(store, type_at(store, types, index), &value)?;
+        check_at(store, registers, types, index, operand)?;
     }
     Ok(())
 }
