@@ -6,7 +6,6 @@ ghost use Rattle.gcsh_top.specs.Churn.{link_fields, max_rounds, mutable_field, n
 use gc_commands::{FieldWord, FieldWords, HeapWord, Operands, StorageWord, ValueWord};
 use gc_script::{Command, Operand};
 use std::alloc::{AllocError, Global};
-use std::mem;
 
 /// A script may have this many rounds.
 pub const MAX_ROUNDS: u32 = 100_000;
@@ -84,9 +83,7 @@ impl Round {
         requires { self.now.number ≤ max_rounds }
         ensures { IfOk result (λ command. command ≡ Command.New 2 0 (named_by self.now.seed ∷ Operand.I32 (pos self.now.number) ∷ [])) }
     {
-        let kept = mem::replace(room, Operands::from_vec(Vec::new(alloc)));
-        let mut values = kept.into_vec();
-        values.clear();
+        let mut values = room.take_room(alloc);
         values.extend_from_slice(&[self.named(), Operand::I32(self.number as i32)])?;
         Ok(Command::New {
             d: MADE,

@@ -137,7 +137,7 @@ impl Churner {
         ensures same { IsSameStore store.old store.new }
     {
         let mut seed = rounds;
-        let mut room = Operands::from_vec(Vec::new(self.alloc));
+        let mut room = Operands::new(self.alloc);
         for done in 0..rounds {
             seed = next_seed(seed);
             let round = Round {

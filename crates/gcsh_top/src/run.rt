@@ -20,8 +20,8 @@ use crate::status::Status;
 use crate::write::write_all;
 use gc_heap::GcHeap;
 use gc_script::{
-    Command, Ending, LineCutter, Operands, Refusal, Reply, RunError, Runner, fixed_line, is_quiet,
-    keep_operands, parse_line_into, push_reply, refusal_line,
+    Command, DONE_LINE, Ending, LineCutter, Operands, Refusal, Reply, RunError, Runner, fixed_line,
+    is_quiet, keep_operands, parse_line_into, push_reply, refusal_line,
 };
 use gc_store::{ResourceLimiter, Store};
 use std::alloc::{AllocError, Global};
@@ -59,9 +59,6 @@ impl LineFault {
     }
 }
 
-/// The line of the reply to a command that was done and tells nothing.
-const DONE_LINE: &str = "ok\n";
-
 /// What is used again from line to line: the list of a command's operands, and the text of a reply.
 #[derive(Drop)]
 struct LineRoom {
@@ -73,7 +70,7 @@ impl LineRoom {
     /// One that has no room yet.
     fn new(alloc: Global) -> LineRoom {
         LineRoom {
-            operands: Operands::from_vec(Vec::new(alloc)),
+            operands: Operands::new(alloc),
             text: String::new(alloc),
         }
     }
