@@ -1,5 +1,5 @@
 -- A call's end: its scope is left.
-use Rattle.std.proofs.Common.{inl, inr, ◌≡◌, ◌⊎◌, ℕ, ◌+◌, ◌-◌, ◌*◌, ◌≤◌, ◌<◌, ◌^◌, ◌||◌, nat_le, nat_eq, ℤ, T, Bool, true, false, List, [], ◌∷◌, ◌++◌, take, length, Option, Some, None, Result, Ok, Err, sym, ap, ◌∙◌, refl, subst, arith, leb-true, eqb-true, pow_mono, length-append}
+use Rattle.std.proofs.Common.{inl, inr, ◌≡◌, ◌⊎◌, ℕ, ◌+◌, ◌-◌, ◌*◌, ◌≤◌, ◌<◌, ◌^◌, ◌||◌, nat_le, nat_eq, ℤ, T, Bool, true, false, List, [], ◌∷◌, ◌++◌, take, length, Option, Some, None, sym, ap, ◌∙◌, refl, subst, arith, leb-true, eqb-true, pow_mono, length-append}
 use Rattle.std.specs.Ordering.{int_cmp}
 use Rattle.std.specs.FinMap as finite
 use Rattle.std.specs.FinMap.Entries.{find, is_sorted}
@@ -7,20 +7,16 @@ use Rattle.gc_types.specs.declared.kind.Layouts.{Layouts}
 use Rattle.gc_model.specs.Live.{roots_full}
 use Rattle.gc_model.specs.Table.{Table, leave}
 use Rattle.gc_model.specs.Stores.{StoreView}
-use Rattle.gc_policy.specs.Accounts.{Account, HoldsAccount}
 use Rattle.gc_values.specs.declared.root.GcRootIndex.{GcRootIndex}
-use Rattle.gc_lists.specs.declared.fault.ListFault.{ListFault}
-use Rattle.gc_lists.specs.declared.fault.ListFault.TheVariants as fault
-use Rattle.gc_lists.specs.Frames.{ChangesOwned, Leaves, most_objects}
+use Rattle.gc_lists.specs.Frames.{ChangesOwned, most_objects}
 use Rattle.gc_lists.specs.Refusals.{LacksCallRoots}
 use Rattle.gc_lists.specs.Versions.{is_version_of, VersionNames}
 use Rattle.gc_model.specs.Values.{Reference}
-use Rattle.gc_maps.specs.Trees.{Tree, height, pairs}
+use Rattle.gc_maps.specs.Trees.{height, pairs}
 use Rattle.gc_maps.specs.Maps.{IntMap, StandsForMapOf, MapStands}
 use Rattle.gc_maps.specs.Parts.{NamesLink, RootIs}
 use Rattle.gc_maps.specs.Searching.{IsSearch, SearchIn}
-use Rattle.gc_maps.specs.Ends.{Pushes, EndsReading}
-use Rattle.gc_maps.specs.Answers.{Gets}
+use Rattle.gc_maps.specs.Ends.{Pushes}
 use Rattle.gc_maps.proofs.Sizes.{square}
 
 pub take_front : {X : Type 0} (xs ys : List X) → take (length xs) (xs ++ ys) ≡ xs
@@ -87,16 +83,3 @@ map_in layouts s version stands own =
       is = map_root s in_some.1.table version in_some.0 in_some.1.entries in_some.1.stands;
       search = map_search s in_some.1.table version in_some.0 in_some.1.entries in_some.1.stands;
     }
-
--- a look that ended, once its scope was left
-module _ {D : Type 0} (layouts : Layouts) (t : Table D) (m : IntMap) (key : ℤ) (mid new : StoreView D) (left : (u : Table D) (b : Account) → HoldsAccount layouts mid u b → HoldsAccount layouts new (leave (length t.scoped) u) b) where
-  leaves_roots : (u : Table D) (b : Account) → HoldsAccount layouts mid u b → Pushes 184 t u → Leaves layouts (ChangesOwned t t.owned) new
-  leaves_roots u b holds pushes = record { after = leave (length t.scoped) u; account = b; holds = left u b holds; changed = pushes_left t 184 u pushes }
-
-  pub gets_ended : (tree : Tree) → find int_cmp key (pairs tree) ≡ finite.get m key → (result : Result (Option ℤ) ListFault)
-      → EndsReading layouts 184 t (λ s u found. found ≡ find int_cmp key (pairs tree)) result mid → Gets layouts m key t result new
-  gets_ended tree is (Ok found) ends = (ends.changed.1 ∙ is, leaves_roots ends.after ends.account ends.holds ends.changed.0)
-  gets_ended tree is (Err fault.WrongStore) ends = ends
-  gets_ended tree is (Err fault.RootsFull) ends = (lacks_roots t 184 ends.after (omega arith) ends.changed.0 ends.changed.1, leaves_roots ends.after ends.account ends.holds ends.changed.0)
-  gets_ended tree is (Err (fault.HeapOutOfMemory f)) ends = ends
-  gets_ended tree is (Err fault.Memory) ends = leaves_roots ends.after ends.account ends.holds ends.changed

@@ -12,6 +12,7 @@ use Rattle.gc_model.specs.SideValues.{InternedIds}
 use Rattle.gc_model.specs.Forms.{Names, naming}
 use Rattle.gc_model.specs.Holds.{Placing, IsWord, Holds, HoldsTable}
 use Rattle.gc_policy.specs.Accounts.{Account, HoldsAccount}
+use Rattle.gc_model.proofs.Words.{place_even}
 use Rattle.gc_policy.proofs.AccountLemmas.{some_account}
 use Rattle.gc_values.specs.declared.root.GcRootIndex.{GcRootIndex}
 use Rattle.gc_values.specs.declared.stored.Found.{Found}
@@ -28,7 +29,7 @@ use Rattle.gc_maps.specs.declared.part.FoundNode.{FoundNode}
 use Rattle.gc_maps.specs.declared.part.Node.{Node}
 use Rattle.gc_maps.specs.Trees.{Tree, leaf, node, height}
 use Rattle.gc_maps.specs.Parts.{RootIs, PartIs, NodeIs}
-use Rattle.gc_maps.specs.FoundNodes.{link_found, number_found, word_found, HasTree, NodeWordIn, NodeFound, FindsNode, GivesLink}
+use Rattle.gc_maps.specs.FoundNodes.{link_found, number_found, word_found, HasTree, NodeWordIn, LinkFound, NodeFound, FindsNode, GivesLink}
 use Rattle.gc_maps.specs.Ends.{Pushes, EndsReading}
 use Rattle.gc_maps.proofs.Naming.{Keeps, held_table, root_kept, tree_kept, link_kept}
 use Rattle.gc_maps.proofs.Values.{long_fits}
@@ -115,6 +116,26 @@ can_in layouts s word q i value there = record {
   value = value;
   has = has_in q.table q.place q.ty word q.left q.key q.value q.right q.has i value there;
 }
+
+-- the word of the tree without nodes is 0
+pub leaf_zero : {D : Type 0} (t : Table D) (place : Placing) (ty word : ℕ) → HasTree t place ty word leaf → word ≡ 0
+leaf_zero t place ty word has = subst (λ (r : Reference). IsWord place r word) has.is has.is_word
+
+-- and no other tree has that word
+pub at_zero : {D : Type 0} (layouts : Layouts) (s : StoreView D) (t : Table D) (place : Placing) → Holds layouts s t place → (ty : ℕ) (part : Tree) → HasTree t place ty 0 part → part ≡ leaf
+at_zero layouts s t place holds ty leaf has = refl
+at_zero layouts s t place holds ty (node x k v y) has =
+    let there = subst (λ (r : Reference). IsWord place r 0) has.is.is_node.named has.is_word in
+    absurd (omega (arith, (place_even layouts t place s.heap holds.objects has.is.is_node.position 0 there).1))
+
+-- any other word of a tree is that of a node
+pub at_word : {D : Type 0} (layouts : Layouts) (s : StoreView D) (t : Table D) (place : Placing) → Holds layouts s t place → (ty word : ℕ) → (word ≡ 0 → ⊥) → (part : Tree) → HasTree t place ty word part → NodeWordIn D layouts s word
+at_word layouts s t place holds ty word some leaf has = absurd (some (leaf_zero t place ty word has))
+at_word layouts s t place holds ty word some (node x k v y) has = record { table = t; place = place; holds = holds; ty = ty; left = x; key = k; value = v; right = y; has = has }
+
+-- a link that was found has the word of its tree
+pub link_word : {D : Type 0} (t : Table D) (place : Placing) (ids : InternedIds) (ty word : ℕ) (x : Tree) → LinkFound (naming place ids) t ty (link_found word) x → HasTree t place ty word x
+link_word t place ids ty word x link = record { root = link.root; is_word = subst (IsWord place link.root) (sym (ap word_found link.stands.found)) link.stands.is_code; is = link.is }
 
 -- a number that was found
 found_number : (names : Names) (x : Found) (bits : ℕ) → FoundStands names x (numeric i64 bits) → number_found x ≡ cells.number_of bits

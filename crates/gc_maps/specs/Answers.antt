@@ -1,6 +1,5 @@
 -- What calls on maps answer and leave, for a table that the store held.
-use Rattle.std.specs.Prelude.{◌≡◌, ℕ, ℤ, List, Option, Result, Ok, Err, length}
-use Rattle.std.specs.FinMap as finite
+use Rattle.std.specs.Prelude.{ℕ, List, Option, Result, Ok, Err, length}
 use Rattle.gc_types.specs.declared.kind.Layouts.{Layouts}
 use Rattle.gc_model.specs.Values.{Reference}
 use Rattle.gc_model.specs.Allocation.{Limits}
@@ -11,19 +10,11 @@ use Rattle.gc_lists.specs.declared.fault.ListFault.{ListFault}
 use Rattle.gc_lists.specs.declared.fault.ListFault.TheVariants as fault
 use Rattle.gc_lists.specs.declared.kit.Kit.{Kit}
 use Rattle.gc_lists.specs.Answers.{AnswersVersion}
-use Rattle.gc_lists.specs.Frames.{ChangesObjects, ChangesOwned, Leaves, most_objects}
-use Rattle.gc_lists.specs.Refusals.{LacksOwned, LacksCallRoots, RefusedInCall}
+use Rattle.gc_lists.specs.Frames.{ChangesObjects, Leaves, most_objects}
+use Rattle.gc_lists.specs.Refusals.{LacksOwned, RefusedInCall}
 use Rattle.gc_maps.specs.declared.map.HeapMap.{HeapMap}
 use Rattle.gc_maps.specs.Ends.{LacksNode}
 use Rattle.gc_maps.specs.Maps.{IntMap, IsMap}
-
--- What a look for a key answers and leaves.
-abbrev pub Gets : {D : Type 0} → Layouts → IntMap → ℤ → Table D → Result (Option ℤ) ListFault → StoreView D → Type 0
-Gets layouts m key t (Ok found) new = (found ≡ finite.get m key) × Leaves layouts (ChangesOwned t t.owned) new
-Gets layouts m key t (Err fault.WrongStore) new = ⊥
-Gets layouts m key t (Err fault.RootsFull) new = LacksCallRoots t × Leaves layouts (ChangesOwned t t.owned) new
-Gets layouts m key t (Err (fault.HeapOutOfMemory f)) new = ⊥
-Gets layouts m key t (Err fault.Memory) new = Leaves layouts (ChangesOwned t t.owned) new
 
 -- the reference is that map, with nodes of that type
 abbrev pub AreEntries : {D : Type 0} → ℕ → IntMap → Table D → Reference → Type 0

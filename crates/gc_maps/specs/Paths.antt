@@ -13,6 +13,7 @@ use Rattle.gc_values.specs.declared.root.GcRootIndex.{GcRootIndex}
 use Rattle.gc_lists.specs.Kits.{IsNodeType}
 use Rattle.gc_maps.specs.declared.part.Frame.{Frame}
 use Rattle.gc_maps.specs.declared.part.Node.{Node}
+use Rattle.gc_maps.specs.declared.part.FoundNode.{FoundNode}
 use Rattle.gc_maps.specs.declared.part.Part.{Part}
 use Rattle.gc_maps.specs.Trees.{Tree, leaf, node, height, pairs, AreLevel, IsBalanced}
 use Rattle.gc_maps.specs.Parts.{RootIs, PartIs}
@@ -44,8 +45,8 @@ abbrev pub LeadsDown : {D : Type 0} → StoreView D → Table D → ℕ → List
 LeadsDown s t ty [] here whole before behind = (whole ≡ here) × ((before ≡ []) × (behind ≡ []))
 LeadsDown s t ty (f ∷ fs) here whole before behind = StepsDown s t ty f (LeadsDown s t ty fs here) whole before behind
 
--- the other child than the one on whose side a key stands that compares so with that of its node
-abbrev pub away : Node → Ordering → Option GcRootIndex
+-- the word of the other child than the one on whose side a key stands that compares so with that of its node
+abbrev pub away : FoundNode → Ordering → ℕ
 away read Less = read.right
 away read Equal = read.left
 away read Greater = read.left

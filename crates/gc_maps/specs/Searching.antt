@@ -9,7 +9,7 @@ use Rattle.gc_model.specs.Table.{Table}
 use Rattle.gc_model.specs.Stores.{StoreView}
 use Rattle.gc_model.specs.Holds.{HoldsTable}
 use Rattle.gc_values.specs.declared.root.GcRootIndex.{GcRootIndex}
-use Rattle.gc_maps.specs.declared.part.Node.{Node}
+use Rattle.gc_maps.specs.declared.part.FoundNode.{FoundNode}
 use Rattle.gc_maps.specs.Trees.{Tree, leaf, node, pairs, IsBalanced}
 use Rattle.gc_maps.specs.Parts.{RootIs}
 
@@ -27,8 +27,8 @@ pub record SearchIn (D : Type 0) (layouts : Layouts) (s : StoreView D) (root : O
   pub is : RootIs s table ty root tree
   pub search : IsSearch tree
 
--- the child on whose side a key stands that compares so with that of its node
-abbrev pub toward : Node → Ordering → Option GcRootIndex
+-- the word of the child on whose side a key stands that compares so with that of its node
+abbrev pub toward : FoundNode → Ordering → ℕ
 toward read Less = read.left
 toward read Equal = read.right
 toward read Greater = read.right

@@ -1,20 +1,17 @@
 //! Looking for a key.
 
-ghost use Rattle.std.specs.Prelude.{◌≡◌, ◌+◌, ◌≤◌, ℕ, OnOk};
+ghost use Rattle.std.specs.Prelude.{◌≡◌, ◌+◌, ◌≤◌, ℕ};
 ghost use Rattle.std.specs.Ordering.{int_cmp};
 ghost use Rattle.std.specs.FinMap.Entries.{find};
 ghost use Rattle.gc_model.specs.Table.{Table};
-ghost use Rattle.gc_policy.specs.Accounts.{Account, HoldsAccount};
-ghost use Rattle.gc_store.specs.Stores.{IsSameStore};
-ghost use Rattle.gc_maps.specs.Ends.{EndsReading};
+ghost use Rattle.gc_model.specs.Holds.{HoldsTable};
 ghost use Rattle.gc_maps.specs.Parts.{RootIs};
 ghost use Rattle.gc_maps.specs.Searching.{IsSearch, SearchIn, nodes_toward, toward};
 ghost use Rattle.gc_maps.specs.Trees.{Tree, height, pairs};
 
-use crate::part::Node;
-use crate::reading::read_node;
+use crate::part::FoundNode;
+use crate::reading::{find_node, word_of};
 use gc_heap::GcHeap;
-use gc_lists::ListFault;
 use gc_steps::Steps;
 use gc_store::{GcRootIndex, Store};
 use std::cmp::Ordering;
@@ -23,8 +20,9 @@ use std::sync::ledger::Ledger;
 /// No map's tree is as high: 64-bit keys would not suffice.
 pub(crate) const MOST_HEIGHT: usize = 92;
 
-/// The child of a node on whose side a key stands that compares so with the node's.
-pub(crate) fn toward(node: &Node, order: Ordering) -> Option<GcRootIndex>
+/// The word of the child of a node on whose side a key stands that compares so with the node's.
+#[inline(always)]
+pub(crate) fn toward(node: &FoundNode, order: Ordering) -> u32
     ensures { result ≡ toward node.now order }
 {
     match order {
@@ -34,38 +32,34 @@ pub(crate) fn toward(node: &Node, order: Ordering) -> Option<GcRootIndex>
     }
 }
 
-/// The value of a key in the tree of a root, with a step for each node that is read.
+/// The value of a key in the tree of a root, with a step for each node that is read. It goes from word to word, and makes no
+/// root.
 pub(crate) fn look_up<H: GcHeap, D: Drop, G: Ledger>(
-    store: &mut Store<H, D>,
+    store: &Store<H, D>,
     root: Option<GcRootIndex>,
     key: i64,
     steps: &mut Steps<G>,
-) -> Result<Option<i64>, ListFault>
-    requires { SearchIn D H.KIND store.old root }
-    ensures finds { (t : Table D) (a : Account) (ty : ℕ) (tree : Tree) → HoldsAccount H.KIND store.old t a → RootIs store.old t ty root tree → IsSearch tree
-        → EndsReading H.KIND 184 t (λ s u found. found ≡ find int_cmp key (pairs tree)) result store.new }
-    ensures counted { (t : Table D) (a : Account) (ty : ℕ) (tree : Tree) → HoldsAccount H.KIND store.old t a → RootIs store.old t ty root tree → IsSearch tree
+) -> Option<i64>
+    requires { SearchIn D H.KIND store.now root }
+    ensures finds { (t : Table D) (ty : ℕ) (tree : Tree) → HoldsTable H.KIND store.now t → RootIs store.now t ty root tree → IsSearch tree
+        → result ≡ find int_cmp key (pairs tree) }
+    ensures counted { (t : Table D) (ty : ℕ) (tree : Tree) → HoldsTable H.KIND store.now t → RootIs store.now t ty root tree → IsSearch tree
         → steps.new ≤ steps.old + height tree }
-    ensures exact { OnOk result ((t : Table D) (a : Account) (ty : ℕ) (tree : Tree) → HoldsAccount H.KIND store.old t a → RootIs store.old t ty root tree
-        → IsSearch tree → steps.new ≡ steps.old + nodes_toward key tree) }
-    ensures same { IsSameStore store.old store.new }
+    ensures exact { (t : Table D) (ty : ℕ) (tree : Tree) → HoldsTable H.KIND store.now t → RootIs store.now t ty root tree → IsSearch tree
+        → steps.new ≡ steps.old + nodes_toward key tree }
 {
-    let mut here = root;
+    let mut here = word_of(store, root);
     for _turn in 0..MOST_HEIGHT {
-        let handle = match here {
-            Some(handle) => handle,
-            None => return Ok(None),
-        };
+        if here == 0 {
+            return None;
+        }
         steps.tick();
-        let node = match read_node(store, handle) {
-            Ok(node) => node,
-            Err(fault) => return Err(fault),
-        };
+        let node = find_node(store, here);
         let order = key.cmp(&node.key);
         if order.is_eq() {
-            return Ok(Some(node.value));
+            return Some(node.value);
         }
         here = toward(&node, order);
     }
-    Ok(None)
+    None
 }

@@ -1,9 +1,10 @@
 //! Maps.
 
 ghost use Rattle.std.specs.Prelude.{◌≡◌, ◌&&◌, ◌+◌, ◌-◌, ◌*◌, ◌^◌, ◌≤◌, ◌<◌, ℕ, true, false, length};
-ghost use Rattle.std.specs.Prelude.{Option, None, Err, OnErr, OnOk, MatchResult, IsErrOf};
+ghost use Rattle.std.specs.Prelude.{Option, None, Ok, Err, OnErr, MatchResult, IsErrOf};
 ghost use Rattle.std.specs.FinMap as finite;
 ghost use Rattle.gc_model.specs.Allocation.{Limits};
+ghost use Rattle.gc_model.specs.Holds.{HoldsTable};
 ghost use Rattle.gc_model.specs.Table.{Table};
 ghost use Rattle.gc_policy.specs.Accounts.{Account, HoldsAccount};
 ghost use Rattle.gc_store.specs.Stores.{IsSameStore};
@@ -13,7 +14,7 @@ ghost use Rattle.gc_lists.specs.Frames.{most_objects};
 ghost use Rattle.gc_lists.specs.Kits.{KitStands, is_kit_of};
 ghost use Rattle.gc_lists.specs.Refusals.{CountsOn};
 ghost use Rattle.gc_lists.specs.Versions.{is_version_of};
-ghost use Rattle.gc_maps.specs.Answers.{AnswersMap, Gets};
+ghost use Rattle.gc_maps.specs.Answers.{AnswersMap};
 ghost use Rattle.gc_maps.specs.Copies.{CopiedEntries, FailsToCopyEntries};
 ghost use Rattle.gc_maps.specs.Ends.{EndsMakingNodes};
 ghost use Rattle.gc_maps.specs.Maps.{IntMap, MapOfStands, MapStands, StandsForMap, StandsForMapOf};
@@ -49,10 +50,9 @@ impl HeapMap {
     }
 
     /// The value of a key; None where the map has no such key. It takes a step for each node that it reads: with n keys and s
-    /// steps, 2^s is at most the square of n + 1.
+    /// steps, 2^s is at most the square of n + 1. It makes no root, and leaves the store as it was.
     ///
-    /// Refused are, in this order: `WrongStore` where the map is another store's; and `RootsFull` where no further scoped
-    /// root may be made.
+    /// `WrongStore` where the map is another store's; refused in no other way.
     pub fn get<H: GcHeap, D: Drop, G: Ledger>(
         &self,
         store: &mut Store<H, D>,
@@ -60,23 +60,20 @@ impl HeapMap {
         steps: &mut Steps<G>,
     ) -> Result<Option<i64>, ListFault>
         requires stands { MapStands D H.KIND store.old self.now.root }
-        ensures wrong_store { is_version_of store.old self.now.root ≡ false → (result ≡ Err ListFault.WrongStore) × (store.new ≡ store.old) }
-        ensures gets { is_version_of store.old self.now.root ≡ true → (t : Table D) (a : Account) (m : IntMap) → HoldsAccount H.KIND store.old t a
-            → StandsForMap store.old t self.now.root m → Gets H.KIND m key t result store.new }
-        ensures few_steps { (t : Table D) (a : Account) (m : IntMap) → HoldsAccount H.KIND store.old t a → StandsForMap store.old t self.now.root m
+        ensures wrong_store { is_version_of store.old self.now.root ≡ false → result ≡ Err ListFault.WrongStore }
+        ensures gets { is_version_of store.old self.now.root ≡ true → (t : Table D) (m : IntMap) → HoldsTable H.KIND store.old t
+            → StandsForMap store.old t self.now.root m → result ≡ Ok (finite.get m key) }
+        ensures few_steps { (t : Table D) (m : IntMap) → HoldsTable H.KIND store.old t → StandsForMap store.old t self.now.root m
             → 2 ^ (steps.new - steps.old) ≤ (finite.len m + 1) * (finite.len m + 1) }
-        ensures each_step { OnOk result ((t : Table D) (a : Account) (ty : ℕ) (m : IntMap) → HoldsAccount H.KIND store.old t a
-            → (stands : StandsForMapOf store.old t self.now.root ty m) → steps.new ≡ steps.old + nodes_toward key stands.is.tree) }
+        ensures each_step { is_version_of store.old self.now.root ≡ true → (t : Table D) (ty : ℕ) (m : IntMap) → HoldsTable H.KIND store.old t
+            → (stands : StandsForMapOf store.old t self.now.root ty m) → steps.new ≡ steps.old + nodes_toward key stands.is.tree }
         ensures no_step { is_version_of store.old self.now.root ≡ false → steps.new ≡ steps.old }
-        ensures same { IsSameStore store.old store.new }
+        ensures rest { store.new ≡ store.old }
     {
         if !is_version_of(store, self.root) {
             return Err(ListFault::WrongStore);
         }
-        let scope = store.enter_gc_lifo_scope();
-        let found = look_up(store, self.root, key, steps);
-        store.exit_gc_lifo_scope(scope);
-        found
+        Ok(look_up(store, self.root, key, steps))
     }
 
     /// A map in which the key has the value, and every other key what it has here; this map stays. It makes the nodes on the

@@ -12,7 +12,7 @@ ghost use Rattle.gc_store.specs.Stores.{IsSameStore};
 ghost use Rattle.gc_store.specs.Reading.{IsFoundHere};
 ghost use Rattle.gc_values.specs.Kept.{FoundStands};
 ghost use Rattle.gc_maps.specs.Ends.{EndsReading};
-ghost use Rattle.gc_maps.specs.FoundNodes.{link_found, number_found, word_found, NodeWordIn, FindsNode, NodeFound, NodeFoundIn, GivesLink};
+ghost use Rattle.gc_maps.specs.FoundNodes.{link_found, number_found, word_found, NodeWordIn, FindsNode, HasTree, NodeFound, NodeFoundIn, GivesLink};
 ghost use Rattle.gc_maps.specs.Parts.{int_in, RootIs, PartIs, NodeIs, OpenedIs, NodeIn, LowNodeIn, RootIn, node_of};
 ghost use Rattle.gc_maps.specs.Trees.{Tree, height};
 
@@ -86,7 +86,7 @@ fn word_found(found: &Found) -> u32
 
 /// A root of what a link with that word names; none where it is null.
 #[inline(always)]
-fn link_of<H: GcHeap, D: Drop>(
+pub(crate) fn link_of<H: GcHeap, D: Drop>(
     store: &mut Store<H, D>,
     word: u32,
 ) -> Result<Option<GcRootIndex>, ListFault>
@@ -101,9 +101,25 @@ fn link_of<H: GcHeap, D: Drop>(
     }
 }
 
+/// The word of what a root names; 0, which is that of null, where there is none.
+#[inline(always)]
+pub(crate) fn word_of<H: GcHeap, D: Drop>(store: &Store<H, D>, root: Option<GcRootIndex>) -> u32
+    requires { RootIn D H.KIND store.now root }
+    ensures { (t : Table D) (place : Placing) (ty : ℕ) (tree : Tree) → Holds H.KIND store.now t place → RootIs store.now t ty root tree
+        → HasTree t place ty result tree }
+{
+    match root {
+        Some(handle) => match store.word(handle) {
+            Ok(word) => word,
+            Err(_) => unreachable!(),
+        },
+        None => 0,
+    }
+}
+
 /// What lies in the node that has that word.
 #[inline(always)]
-fn find_node<H: GcHeap, D: Drop>(store: &Store<H, D>, word: u32) -> FoundNode
+pub(crate) fn find_node<H: GcHeap, D: Drop>(store: &Store<H, D>, word: u32) -> FoundNode
     requires { NodeWordIn D H.KIND store.now word }
     ensures { FindsNode D H.KIND store.now word result }
 {
@@ -121,7 +137,7 @@ fn find_node<H: GcHeap, D: Drop>(store: &Store<H, D>, word: u32) -> FoundNode
 
 /// What was found of a node, with a root for each of its children.
 #[inline(always)]
-fn give_node<H: GcHeap, D: Drop>(
+pub(crate) fn give_node<H: GcHeap, D: Drop>(
     store: &mut Store<H, D>,
     found: FoundNode,
 ) -> Result<Node, ListFault>

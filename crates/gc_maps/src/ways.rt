@@ -18,15 +18,16 @@ ghost use Rattle.gc_maps.specs.Trees.{Tree, height, pairs, IsBalanced};
 use crate::finding::{MOST_HEIGHT, toward};
 use crate::joining::join;
 use crate::making::make_node;
-use crate::part::{Frame, Node, Opened, Part};
-use crate::reading::{part_of, read_node};
+use crate::part::{FoundNode, Frame, Node, Opened, Part};
+use crate::reading::{find_node, give_node, link_of, part_of, word_of};
 use gc_heap::GcHeap;
 use gc_lists::{Kit, ListFault};
 use gc_store::{GcRootIndex, ResourceLimiter, Store};
 use std::cmp::Ordering;
 
-/// The child of a node on the other side than that of a key which compares so with the node's.
-fn away(node: &Node, order: Ordering) -> Option<GcRootIndex>
+/// The word of the child of a node on the other side than that of a key which compares so with the node's.
+#[inline(always)]
+fn away(node: &FoundNode, order: Ordering) -> u32
     ensures { result ≡ away node.now order }
 {
     match order {
@@ -36,18 +37,20 @@ fn away(node: &Node, order: Ordering) -> Option<GcRootIndex>
     }
 }
 
-/// The frame of a step from a node to the child on whose side a key stands that compares so with the node's.
-fn frame_of(node: &Node, order: Ordering) -> Frame
+/// The frame of a step from a node to the child on whose side a key stands that compares so with the node's: `other` is a root
+/// of the other child.
+#[inline(always)]
+fn frame_of(node: &FoundNode, order: Ordering, other: Option<GcRootIndex>) -> Frame
     ensures goes_left { result.goes_left ≡ is_lt order }
     ensures key { FitsSigned w64 node.now.key → result.key ≡ node.now.key }
     ensures value { FitsSigned w64 node.now.value → result.value ≡ node.now.value }
-    ensures other { result.other ≡ away node.now order }
+    ensures other { result.other ≡ other }
 {
     Frame {
         goes_left: order.is_lt(),
         key: node.key,
         value: node.value,
-        other: away(node, order),
+        other,
     }
 }
 
@@ -71,21 +74,24 @@ pub(crate) fn descend<H: GcHeap, D: Drop>(
     if path.reserve(USUAL_HEIGHT).is_err() {
         return Err(ListFault::Memory);
     }
-    let mut here = root;
+    let mut here = word_of(store, root);
     for _turn in 0..MOST_HEIGHT {
-        let handle = match here {
-            Some(handle) => handle,
-            None => return Ok(None),
-        };
-        let node = match read_node(store, handle) {
-            Ok(node) => node,
-            Err(fault) => return Err(fault),
-        };
+        if here == 0 {
+            return Ok(None);
+        }
+        let node = find_node(store, here);
         let order = key.cmp(&node.key);
         if order.is_eq() {
-            return Ok(Some(node));
+            return match give_node(store, node) {
+                Ok(given) => Ok(Some(given)),
+                Err(fault) => Err(fault),
+            };
         }
-        let frame = frame_of(&node, order);
+        let other = match link_of(store, away(&node, order)) {
+            Ok(other) => other,
+            Err(fault) => return Err(fault),
+        };
+        let frame = frame_of(&node, order, other);
         if path.push(frame).is_err() {
             return Err(ListFault::Memory);
         }

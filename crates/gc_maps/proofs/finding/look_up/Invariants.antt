@@ -1,7 +1,6 @@
 use Rattle.std.proofs.Common.{ℕ}
 use Rattle.gc_model.specs.Table.{Table}
-use Rattle.gc_policy.specs.Accounts.{Account, HoldsAccount}
-use Rattle.gc_store.specs.Stores.{IsSameStore}
+use Rattle.gc_model.specs.Holds.{Holds, Placing}
 use Rattle.gc_maps.specs.Parts.{RootIs}
 use Rattle.gc_maps.specs.Searching.{IsSearch}
 use Rattle.gc_maps.proofs.Lookups.{Looks}
@@ -10,7 +9,6 @@ use Rattle.gc_maps.proofs.finding.look_up.Given as goal
 
 abbrev pub invariant-loop-turn : goal.invariant-loop-turn
 invariant-loop-turn g l = record {
-  looks : (t : Table g.row.D.Denot) (a : Account) (ty : ℕ) (tree : Tree) → HoldsAccount g.H.GcHeap.KIND l.fn.store t a → RootIs l.fn.store t ty l.fn.root tree → IsSearch tree
-      → Looks g.H.GcHeap.KIND t ty tree l.key l._turn l.initial.steps l.steps l.store l.here;
-  same : IsSameStore l.fn.store l.store;
+  looks : (t : Table g.row.D.Denot) (place : Placing) (ty : ℕ) (tree : Tree) → Holds g.H.GcHeap.KIND l.fn.store t place → RootIs l.fn.store t ty l.fn.root tree → IsSearch tree
+      → Looks t place ty tree l.key l._turn l.initial.steps l.steps l.here;
 }
