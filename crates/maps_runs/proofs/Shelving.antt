@@ -36,7 +36,7 @@ use Rattle.gc_lists.specs.Versions.{VersionNames, is_version_of}
 use Rattle.gc_lists.proofs.Sparing.{new_apart, others_left}
 use Rattle.gc_lists.proofs.Standing.{named_still, objects_keep, roots_keep}
 use Rattle.gc_maps.specs.declared.map.HeapMap.{HeapMap}
-use Rattle.gc_maps.specs.Answers.{AnswersMap, AreEntries, Gets}
+use Rattle.gc_maps.specs.Answers.{AnswersMap, AreEntries}
 use Rattle.gc_maps.specs.Copies.{CopiedEntries, FailsToCopyEntries}
 use Rattle.gc_maps.specs.Maps.{IntMap, IsMap, IsTree, MapOfStands, MapStands, StandsForMap, StandsForMapOf}
 use Rattle.gc_maps.specs.Trees.{Tree, leaf, node, pairs}
@@ -252,25 +252,6 @@ module _ (layouts : Layouts) (s new : StoreView ℕ) (kit : Kit) (v : Option GcR
 
     pub put_owns : (counter : Option ℕ) (result : Result HeapMap ListFault) → Refuses result → Changes (λ (m : IntMap). finite.insert m key value) limits limits' counter result → Owns result
     put_owns counter result wrong inserts = either_way (λ (m : IntMap). finite.insert m key value) limits limits' counter result wrong inserts Owns (owned_by counter result) (λ left. tt)
-
-  module _ (key : ℤ) where
-    got : (result : Result (Option ℤ) ListFault) → Gets layouts first_stands.0 key shelf.table result new → Shelf layouts new kit (v ∷ vs)
-    got (Ok found) gets = shelf_read layouts s new kit (v ∷ vs) shelf same gets.1
-    got (Err fault.WrongStore) gets = absurd gets
-    got (Err fault.RootsFull) gets = shelf_read layouts s new kit (v ∷ vs) shelf same gets.1
-    got (Err (fault.HeapOutOfMemory f)) gets = absurd gets
-    got (Err fault.Memory) gets = shelf_read layouts s new kit (v ∷ vs) shelf same gets
-
-    pub find_stays : (result : Result (Option ℤ) ListFault) → (is_version_of s v ≡ false → (result ≡ Err fault.WrongStore) × (new ≡ s))
-        → (is_version_of s v ≡ true → (t : Table ℕ) (a : Account) (m : IntMap) → HoldsAccount layouts s t a → StandsForMap s t v m → Gets layouts m key t result new) → Shelf layouts new kit (v ∷ vs)
-    find_stays result wrong gets = by (is_version_of s v) refl
-      where
-        account : (a : Account) × HoldsAccount layouts s shelf.table a
-        account = some_account layouts s shelf.table shelf.holds
-
-        by : (w : Bool) → is_version_of s v ≡ w → Shelf layouts new kit (v ∷ vs)
-        by true own = got result (gets own shelf.table account.0 first_stands.0 account.1 (kit.node, first_stands.1))
-        by false own = as_it_was (wrong own).1
 
   copied : (result : Result (Vec (ℤ × ℤ) Global) ListFault) → MatchResult result (λ (entries : Vec (ℤ × ℤ) Global). CopiedEntries layouts first_stands.0 shelf.table entries.items new)
       (λ (why : ListFault). FailsToCopyEntries layouts first_stands.0 shelf.table why new) → Shelf layouts new kit (v ∷ vs)

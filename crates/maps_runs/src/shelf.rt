@@ -146,9 +146,7 @@ fn find_by<L: Ledger, H: GcHeap>(
     requires parts { blank.parts ≡ L.parts }
     requires some { 0 < blank.parts }
     requires shelf { is_version_of store.old map.now.root ≡ true → (kit : Kit) × Shelf H.KIND store.old kit (map.now.root ∷ []) }
-    ensures stays { (kit : Kit) (vs : List (Option GcRootIndex)) → Shelf H.KIND store.old kit (map.now.root ∷ vs)
-        → Shelf H.KIND store.new kit (map.now.root ∷ vs) }
-    ensures foreign { is_version_of store.old map.now.root ≡ false → store.new ≡ store.old }
+    ensures { store.new ≡ store.old }
 {
     let mut steps = Steps::<L>::new(blank);
     map.get(store, key, &mut steps)

@@ -5,4 +5,4 @@ pub find_by-requires-clause-shelf : goal.find_by-requires-clause-shelf
 find_by-requires-clause-shelf g c = λ own. absurd (cc (sym own ∙ c.requires))
 
 pub returns : goal.returns
-returns g c = c.find_by.ensures.foreign c.requires
+returns g c = c.find_by.ensures
