@@ -13,11 +13,10 @@ use Rattle.gc_model.specs.Forms.{Names, naming}
 use Rattle.gc_model.specs.Holds.{Placing, IsWord, Holds, HoldsTable}
 use Rattle.gc_policy.specs.Accounts.{Account, HoldsAccount}
 use Rattle.gc_model.proofs.Words.{place_even}
-use Rattle.gc_policy.proofs.AccountLemmas.{some_account}
 use Rattle.gc_values.specs.declared.root.GcRootIndex.{GcRootIndex}
 use Rattle.gc_values.specs.declared.stored.Found.{Found}
 use Rattle.gc_values.specs.Kept.{FoundStands}
-use Rattle.gc_store.specs.Roots.{NamesReference, HasValue, CanRead}
+use Rattle.gc_store.specs.Roots.{NamesReference}
 use Rattle.gc_store.specs.Reading.{HasValueIn, CanReadIn, FindsValueIn, IsFoundHere}
 use Rattle.gc_store.specs.Stores.{IsSameStore}
 use Rattle.gc_store.proofs.HandleWords.{named_held}
@@ -27,42 +26,18 @@ use Rattle.gc_lists.specs.Frames.{Leaves}
 use Rattle.gc_lists.specs.Cells as cells
 use Rattle.gc_maps.specs.declared.part.FoundNode.{FoundNode}
 use Rattle.gc_maps.specs.declared.part.Node.{Node}
+use Rattle.gc_maps.specs.declared.part.Part.{Part}
 use Rattle.gc_maps.specs.Trees.{Tree, leaf, node, height}
-use Rattle.gc_maps.specs.Parts.{RootIs, PartIs, NodeIs}
-use Rattle.gc_maps.specs.FoundNodes.{link_found, number_found, word_found, HasTree, NodeWordIn, LinkFound, NodeFound, FindsNode, GivesLink}
+use Rattle.gc_maps.specs.Parts.{RootIs, PartIs, NodeIs, NodeIn}
+use Rattle.gc_maps.specs.FoundNodes.{link_found, int_found, number_found, word_found, HasTree, NodeWordIn, LinkFound, NodeFound, FindsNode, GivesLink}
 use Rattle.gc_maps.specs.Ends.{Pushes, EndsReading}
-use Rattle.gc_maps.proofs.Naming.{Keeps, held_table, root_kept, tree_kept, link_kept}
-use Rattle.gc_maps.proofs.Values.{long_fits}
+use Rattle.gc_maps.proofs.Naming.{Keeps, held_table, tree_kept, link_kept}
+use Rattle.gc_maps.proofs.Values.{long_fits, int_fits}
 use Rattle.gc_maps.proofs.Growing.{pushes_none, pushes_then, pushes_keep}
 
 -- the store is the same, and so is the table
 pub table_keeps : {D : Type 0} (s : StoreView D) (t : Table D) (s' : StoreView D) → IsSameStore s s' → Keeps s t s' t
 table_keeps s t s' same = pushes_keep 0 s t s' t same (pushes_none 0 t)
-
--- a root of a tree with nodes, in a table that the store holds
-pub record AtNode {D : Type 0} (layouts : Layouts) (s : StoreView D) (t : Table D) (a : Account) (ty : ℕ) (h : GcRootIndex) (x : Tree) (k v : ℤ) (y : Tree) : Type 0 where
-  pub holds : HoldsAccount layouts s t a
-  pub is : RootIs s t ty (Some h) (node x k v y)
-
-module _ {D : Type 0} (layouts : Layouts) (t : Table D) (a : Account) (ty : ℕ) (h : GcRootIndex) (x : Tree) (k v : ℤ) (y : Tree) where
-  module _ (s : StoreView D) (here : AtNode layouts s t a ty h x k v y) where
-    abbrev pub the_node : cells.IsNode t.types t.objects here.is.reference k v (height (node x k v y)) here.is.is.left here.is.is.right
-    the_node = here.is.is.is_node
-
-    abbrev pub the_object : Object D
-    the_object = cells.node the_node.ty the_node.key_bits the_node.value_bits (height (node x k v y)) here.is.is.left here.is.is.right
-
-    pub has : (i : ℕ) (value : Value) → slice_get (object_values the_object) i ≡ Some value → HasValue s t h i value
-    has i value there = record {
-      position = the_node.position;
-      named = subst (λ (r : Reference). NamesReference s t h r) the_node.named here.is.names;
-      object = the_object;
-      object_is = the_node.object_is;
-      value_at = there;
-    }
-
-    pub can : (i : ℕ) (value : Value) → slice_get (object_values the_object) i ≡ Some value → CanRead D layouts s h i
-    can i value there = record { table = t; holds = held_table layouts s t a here.holds; value = value; has = has i value there }
 
 -- a root names no null
 pub not_null : {D : Type 0} (layouts : Layouts) (s : StoreView D) (t : Table D) → HoldsTable layouts s t → (h : GcRootIndex) (r : Reference) → NamesReference s t h r → r ≡ null → ⊥
@@ -227,24 +202,42 @@ module _ {D : Type 0} (layouts : Layouts) (t : Table D) (place : Placing) (ty : 
             );
           }
 
+-- a small number that was found
+found_small : (names : Names) (x : Found) (n : ℕ) → n < 2 ^ 31 → FoundStands names x (numeric i32 n) → to_z w32 (of_z w32 (int_found x)) ≡ pos n
+found_small names x n below is =
+    ap (λ (f : Found). to_z w32 (of_z w32 (int_found f))) is.found ∙ to_z-of_z w32 (to_z w32 is.code) (int_fits is.code) ∙ ap (to_z w32) is.is_code ∙ to_z_pos w32 n below
+
+-- the height of a node, by the word of its root
+pub height_found : {D : Type 0} (layouts : Layouts) (s : StoreView D) (t : Table D) (place : Placing) (ty word : ℕ) (x : Tree) (k v : ℤ) (y : Tree) (found : Found) → Holds layouts s t place
+    → HasTree t place ty word (node x k v y) → height (node x k v y) < 2 ^ 31 → FindsValueIn D layouts s word 2 found → to_z w32 (of_z w32 (int_found found)) ≡ pos (height (node x k v y))
+height_found layouts s t place ty word x k v y found holds has low finds =
+    found_small (naming place s.ids) found (height (node x k v y)) low (finds t place _ holds (has_in t place ty word x k v y has 2 _ refl))
+
 -- a part is what was read of its root
-pub part_here : {D : Type 0} (layouts : Layouts) (h : GcRootIndex) (s s1 : StoreView D) (same : IsSameStore s s1) (n : ℤ)
-    → ((t : Table D) (a : Account) (m : ℕ) → HoldsAccount layouts s t a → HasValue s t h 2 (numeric i32 m) → m < 2 ^ 31 → (n ≡ pos m) × HoldsAccount layouts s1 t a)
-    → (t : Table D) (a : Account) (ty : ℕ) (tree : Tree) → HoldsAccount layouts s t a → RootIs s t ty (Some h) tree → height tree < 2 ^ 31
-    → PartIs s1 t ty (record { root = Some h; height = to_z w32 (of_z w32 n) }) tree × HoldsAccount layouts s1 t a
-part_here layouts h s s1 same n reads t a ty leaf holds is low = absurd (not_null layouts s t (held_table layouts s t a holds) h is.reference is.names is.is)
-part_here layouts h s s1 same n reads t a ty (node x k v y) holds is low =
-    let here : AtNode layouts s t a ty h x k v y = record { holds = holds; is = is } in
-    let read = reads t a (height (node x k v y)) holds (has layouts t a ty h x k v y s here 2 _ refl) low in
-    (record { root = root_kept s t s1 t (table_keeps s t s1 same) ty (Some h) (node x k v y) is; height_is = ap (λ (z : ℤ). to_z w32 (of_z w32 z)) read.0 ∙ to_z_pos w32 (height (node x k v y)) low }, read.1)
+pub part_here : {D : Type 0} (layouts : Layouts) (h : GcRootIndex) (s : StoreView D) (n : ℤ)
+    → ((t : Table D) (ty : ℕ) (x : Tree) (k v : ℤ) (y : Tree) → HoldsTable layouts s t → RootIs s t ty (Some h) (node x k v y) → height (node x k v y) < 2 ^ 31 → n ≡ pos (height (node x k v y)))
+    → (t : Table D) (ty : ℕ) (tree : Tree) → HoldsTable layouts s t → RootIs s t ty (Some h) tree → height tree < 2 ^ 31
+    → PartIs s t ty (record { root = Some h; height = to_z w32 (of_z w32 n) }) tree
+part_here layouts h s n reads t ty leaf holds is low = absurd (not_null layouts s t holds h is.reference is.names is.is)
+part_here layouts h s n reads t ty (node x k v y) holds is low = record {
+  root = is;
+  height_is = ap (λ (z : ℤ). to_z w32 (of_z w32 z)) (reads t ty x k v y holds is low) ∙ to_z_pos w32 (height (node x k v y)) low;
+}
 
 pub part_none : {D : Type 0} (s : StoreView D) (t : Table D) (ty : ℕ) (tree : Tree) → RootIs s t ty None tree → PartIs s t ty (record { root = None; height = pos 0 }) tree
 part_none s t ty leaf is = record { root = record { reference = is.reference; names = is.names; is = is.is }; height_is = refl }
 part_none s t ty (node x k v y) is = let named = is.is.is_node.named in let none = is.names in absurd (cc (named, none))
 
--- a root's height may be read
-pub can_height : {D : Type 0} (layouts : Layouts) (s : StoreView D) (h : GcRootIndex) (t : Table D) (holds : HoldsTable layouts s t) (ty : ℕ) (tree : Tree) → RootIs s t ty (Some h) tree → CanRead D layouts s h 2
-can_height layouts s h t holds ty leaf is = absurd (not_null layouts s t holds h is.reference is.names is.is)
-can_height layouts s h t holds ty (node x k v y) is =
-    let some = some_account layouts s t holds in
-    can layouts t some.0 ty h x k v y s (record { holds = some.1; is = is }) 2 _ refl
+-- a root of some tree is that of a node
+pub some_node : {D : Type 0} (layouts : Layouts) (s : StoreView D) (h : GcRootIndex) (t : Table D) (holds : HoldsTable layouts s t) (ty : ℕ) (tree : Tree) → RootIs s t ty (Some h) tree → NodeIn D layouts s h
+some_node layouts s h t holds ty leaf is = absurd (not_null layouts s t holds h is.reference is.names is.is)
+some_node layouts s h t holds ty (node x k v y) is = record { table = t; holds = holds; ty = ty; left = x; key = k; value = v; right = y; is = is }
+
+-- a part that was read changes nothing
+abbrev pub same_here : {D : Type 0} (s : StoreView D) → IsSameStore s s
+same_here s = record { engine = refl; number = refl; counter = refl }
+
+pub part_reads : {D : Type 0} (layouts : Layouts) (s : StoreView D) (root : Option GcRootIndex) (part : Part)
+    → ((t : Table D) (ty : ℕ) (tree : Tree) → HoldsTable layouts s t → RootIs s t ty root tree → height tree < 2 ^ 31 → PartIs s t ty part tree)
+    → (t : Table D) (a : Account) (ty : ℕ) (tree : Tree) → HoldsAccount layouts s t a → RootIs s t ty root tree → height tree < 2 ^ 31 → PartIs s t ty part tree × HoldsAccount layouts s t a
+part_reads layouts s root part is t a ty tree holds at low = (is t ty tree (held_table layouts s t a holds) at low, holds)

@@ -1,9 +1,9 @@
 -- What reading a field of a node answers.
-use Rattle.std.proofs.Common.{◌≡◌, ℕ, ◌^◌, ◌<◌, ℤ, pos, negsuc, SFits, w32, w64, to_z, of_z, Some, Ok, Err, length, refl, sym, ap, ◌∙◌, subst, arith}
+use Rattle.std.proofs.Common.{◌≡◌, ℕ, SFits, w32, w64, to_z, Some, Ok, Err, length, refl, sym, subst, arith}
 use Rattle.std.proofs.lemmas.Int.{ints}
 use Rattle.gc_types.specs.declared.kind.Layouts.{Layouts}
 use Rattle.gc_owner.specs.declared.entry.GcClass.TheVariants.{Any}
-use Rattle.gc_model.specs.Values.{Reference, null, small, at, numeric, reference, NumberKind, number_bits}
+use Rattle.gc_model.specs.Values.{Reference, null, small, at, reference}
 use Rattle.gc_model.specs.Table.{Table, push}
 use Rattle.gc_model.specs.Reads.{after_read}
 use Rattle.gc_model.specs.Stores.{StoreView}
@@ -20,7 +20,7 @@ use Rattle.gc_values.specs.RawValues.{raw_handle}
 use Rattle.gc_lists.specs.Faults.{refused}
 use Rattle.gc_maps.specs.FoundNodes.{GivesLink}
 use Rattle.gc_maps.specs.Ends.{EndsReading}
-use Rattle.gc_maps.specs.Parts.{int_in, NamesLink}
+use Rattle.gc_maps.specs.Parts.{NamesLink}
 use Rattle.gc_maps.proofs.Naming.{are_before, held_table, names_pushed}
 use Rattle.gc_maps.proofs.Growing.{pushes_none, pushes_one}
 
@@ -28,23 +28,8 @@ use Rattle.gc_maps.proofs.Growing.{pushes_none, pushes_one}
 pub long_fits : (n : ℕ) → SFits w64 (to_z w64 n)
 long_fits n = grind (arith, ints)
 
-int_fits : (n : ℕ) → SFits w32 (to_z w32 n)
+pub int_fits : (n : ℕ) → SFits w32 (to_z w32 n)
 int_fits n = grind (arith, ints)
-
-small_int : (z : ℤ) (n : ℕ) → SFits w32 z → n < 2 ^ 31 → n ≡ of_z w32 z → z ≡ pos n
-small_int (pos m) n fits below e = ap pos (sym e)
-small_int (negsuc m) n fits below e = let f = fits.sfits in absurd (omega (arith, f, below, e))
-
-pub int_is : (value : RawValue) (n : ℕ) → n < 2 ^ 31 → (z : ℤ) × ((value ≡ raw.I32 z) × (n ≡ number_bits w32 z)) → to_z w32 (of_z w32 (int_in value)) ≡ pos n
-int_is value n below read =
-    ap (λ (v : RawValue). to_z w32 (of_z w32 (int_in v))) read.1.0 ∙ small_int (to_z w32 (of_z w32 read.0)) n (int_fits (of_z w32 read.0)) below read.1.1
-
--- a number is always read
-pub number_read : {D : Type 0} (layouts : Layouts) (t : Table D) (a : Account) (kind : NumberKind) (n : ℕ) (f : RootFault) (new : StoreView D) → ReadsValue layouts t a (numeric kind n) (Err f) new → ⊥
-number_read layouts t a kind n root.WrongStore new none = none
-number_read layouts t a kind n root.Unrooted new none = none
-number_read layouts t a kind n root.RootsFull new reads = let e = reads.0 in cc e
-number_read layouts t a kind n root.Memory new reads = let e = reads.0 in cc e
 
 -- a root that was given for a link
 module _ {D : Type 0} (layouts : Layouts) (old : StoreView D) (t : Table D) (place : Placing) (a : Account) (holds : HoldsAccount layouts old t a) (new : StoreView D) where

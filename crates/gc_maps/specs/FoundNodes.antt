@@ -16,7 +16,7 @@ use Rattle.gc_lists.specs.Cells.{number_in}
 use Rattle.gc_maps.specs.declared.part.FoundNode.{FoundNode}
 use Rattle.gc_maps.specs.Trees.{Tree, node}
 use Rattle.gc_maps.specs.Maps.{IsTree}
-use Rattle.gc_maps.specs.Parts.{NamesLink}
+use Rattle.gc_maps.specs.Parts.{int_in, NamesLink}
 
 -- the integer of 64 bits that was found in an object; 0 where it is none
 abbrev pub number_found : Found → ℤ
@@ -24,6 +24,13 @@ number_found (Number value) = number_in value
 number_found (Func code) = pos 0
 number_found (Cont code) = pos 0
 number_found (Ref class word) = pos 0
+
+-- the integer of 32 bits that was found in an object; 0 where it is none
+abbrev pub int_found : Found → ℤ
+int_found (Number value) = int_in value
+int_found (Func code) = pos 0
+int_found (Cont code) = pos 0
+int_found (Ref class word) = pos 0
 
 -- the word of the reference that was found in an object; 0 where it is none
 abbrev pub word_found : Found → ℕ

@@ -2,17 +2,16 @@
 
 ghost use Rattle.std.specs.Prelude.{◌≡◌, ◌<◌, ◌^◌, ℕ, ℤ, pos, Some};
 ghost use Rattle.gc_owner.specs.declared.entry.GcClass.TheVariants.{Any};
-ghost use Rattle.gc_model.specs.Values.{Reference, numeric, i32, reference};
+ghost use Rattle.gc_model.specs.Values.{Reference, reference};
 ghost use Rattle.gc_model.specs.Table.{Table};
 ghost use Rattle.gc_model.specs.Forms.{naming};
-ghost use Rattle.gc_model.specs.Holds.{Holds, Placing};
+ghost use Rattle.gc_model.specs.Holds.{Holds, HoldsTable, Placing};
 ghost use Rattle.gc_policy.specs.Accounts.{Account, HoldsAccount};
-ghost use Rattle.gc_store.specs.Roots.{CanRead, HasValue};
 ghost use Rattle.gc_store.specs.Stores.{IsSameStore};
 ghost use Rattle.gc_store.specs.Reading.{IsFoundHere};
 ghost use Rattle.gc_values.specs.Kept.{FoundStands};
 ghost use Rattle.gc_maps.specs.Ends.{EndsReading};
-ghost use Rattle.gc_maps.specs.FoundNodes.{link_found, number_found, word_found, NodeWordIn, FindsNode, HasTree, NodeFound, NodeFoundIn, GivesLink};
+ghost use Rattle.gc_maps.specs.FoundNodes.{link_found, int_found, number_found, word_found, NodeWordIn, FindsNode, HasTree, NodeFound, NodeFoundIn, GivesLink};
 ghost use Rattle.gc_maps.specs.Parts.{int_in, RootIs, PartIs, NodeIs, OpenedIs, NodeIn, LowNodeIn, RootIn, node_of};
 ghost use Rattle.gc_maps.specs.Trees.{Tree, height};
 
@@ -55,21 +54,14 @@ fn number_found(found: &Found) -> i64
     }
 }
 
-/// The 32-bit integer at that index of an object.
+/// The 32-bit integer that was found in an object; 0 where it is none.
 #[inline(always)]
-pub(crate) fn read_int<H: GcHeap, D: Drop>(
-    store: &mut Store<H, D>,
-    object: GcRootIndex,
-    index: u32,
-) -> i32
-    requires { CanRead D H.KIND store.old object index }
-    ensures reads { (t : Table D) (a : Account) (n : ℕ) → HoldsAccount H.KIND store.old t a → HasValue store.old t object index (numeric i32 n)
-        → n < 2 ^ 31 → (result ≡ pos n) × HoldsAccount H.KIND store.new t a }
-    ensures same { IsSameStore store.old store.new }
+fn int_found(found: &Found) -> i32
+    ensures { result ≡ int_found found.now }
 {
-    match store.read_value(object, index) {
-        Ok(value) => int_in(&value),
-        Err(_) => 0,
+    match found {
+        Found::Number(value) => int_in(value),
+        _ => 0,
     }
 }
 
@@ -175,30 +167,33 @@ pub(crate) fn read_node<H: GcHeap, D: Drop>(
     ensures same { IsSameStore store.old store.new }
 {
     // the word finds the node once for all that is read of it, before a root is made
-    let word = match store.word(node) {
-        Ok(word) => word,
-        Err(_) => unreachable!(),
-    };
+    let word = word_of(store, Some(node));
     let found = find_node(store, word);
     give_node(store, found)
 }
 
+/// The height that a node has, by its root.
+#[inline(always)]
+fn height_of<H: GcHeap, D: Drop>(store: &Store<H, D>, node: GcRootIndex) -> i32
+    requires { NodeIn D H.KIND store.now node }
+    ensures { (t : Table D) (ty : ℕ) (x : Tree) (k v : ℤ) (y : Tree) → HoldsTable H.KIND store.now t → RootIs store.now t ty (Some node) (node_of x k v y)
+        → height (node_of x k v y) < 2 ^ 31 → result ≡ pos (height (node_of x k v y)) }
+{
+    let word = word_of(store, Some(node));
+    int_found(&store.found_in(word, HEIGHT))
+}
+
 /// A part by its root.
 #[inline(always)]
-pub(crate) fn part_of<H: GcHeap, D: Drop>(
-    store: &mut Store<H, D>,
-    root: Option<GcRootIndex>,
-) -> Part
-    requires { RootIn D H.KIND store.old root }
-    ensures reads { (t : Table D) (a : Account) (ty : ℕ) (tree : Tree) → HoldsAccount H.KIND store.old t a → RootIs store.old t ty root tree
-        → height tree < 2 ^ 31
-        → PartIs store.new t ty result tree × HoldsAccount H.KIND store.new t a }
-    ensures same { IsSameStore store.old store.new }
+pub(crate) fn part_of<H: GcHeap, D: Drop>(store: &Store<H, D>, root: Option<GcRootIndex>) -> Part
+    requires { RootIn D H.KIND store.now root }
+    ensures { (t : Table D) (ty : ℕ) (tree : Tree) → HoldsTable H.KIND store.now t → RootIs store.now t ty root tree → height tree < 2 ^ 31
+        → PartIs store.now t ty result tree }
 {
     match root {
         Some(node) => Part {
             root,
-            height: read_int(store, node, HEIGHT),
+            height: height_of(store, node),
         },
         None => Part { root, height: 0 },
     }

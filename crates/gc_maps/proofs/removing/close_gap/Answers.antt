@@ -1,6 +1,7 @@
 use Rattle.gc_policy.proofs.AccountLemmas.{some_account}
 use Rattle.gc_maps.proofs.GapLemmas.{left_closes, left_in, right_closes, right_in}
 use Rattle.gc_maps.proofs.TakingOut.{closes_passed, gap_passed}
+use Rattle.gc_maps.proofs.NodeReads.{part_reads, same_here}
 use Rattle.gc_maps.proofs.removing.close_gap.Goals as goal
 
 pub pull_up-requires-clause-gap : goal.pull_up-requires-clause-gap
@@ -24,8 +25,8 @@ part_of-requires-in-None g c =
 
 pub returns-in-None-left-clause-closes : goal.returns-in-None-left-clause-closes
 returns-in-None-left-clause-closes g c t a ty tree holds ordered low d =
-    right_closes g.H.GcHeap.KIND c.args.store.now t a holds ty tree c.args.key c.args.path.now.items c.args.node ordered low d c.part_of.new.store c.part_of.ensures.same c.part_of.result c.in-None-left.is c.part_of.ensures.reads
+    right_closes g.H.GcHeap.KIND c.args.store.now t a holds ty tree c.args.key c.args.path.now.items c.args.node ordered low d c.args.store.now (same_here c.args.store.now) c.part_of.result c.in-None-left.is (part_reads g.H.GcHeap.KIND c.args.store.now c.args.node.right c.part_of.result c.part_of.ensures)
 
 pub returns-in-None-clause-closes : goal.returns-in-None-clause-closes
 returns-in-None-clause-closes g c t a ty tree holds ordered low d =
-    left_closes g.H.GcHeap.KIND c.args.store.now t a holds ty tree c.args.key c.args.path.now.items c.args.node ordered low d c.part_of-in-None.new.store c.part_of-in-None.ensures.same c.part_of-in-None.result c.in-None.is c.part_of-in-None.ensures.reads
+    left_closes g.H.GcHeap.KIND c.args.store.now t a holds ty tree c.args.key c.args.path.now.items c.args.node ordered low d c.args.store.now (same_here c.args.store.now) c.part_of-in-None.result c.in-None.is (part_reads g.H.GcHeap.KIND c.args.store.now c.args.node.left c.part_of-in-None.result c.part_of-in-None.ensures)

@@ -6,6 +6,7 @@ use Rattle.gc_maps.specs.declared.part.Frame.{Frame}
 use Rattle.gc_maps.specs.Gaps.{AboveIn, Closes, others}
 use Rattle.gc_maps.specs.Trees.{pairs}
 use Rattle.gc_maps.proofs.PullingUp.{takes_passed, above_in, least_refused, wanting, part_in, pulled_up}
+use Rattle.gc_maps.proofs.NodeReads.{part_reads, same_here}
 use Rattle.gc_maps.proofs.removing.pull_up.Goals as goal
 
 pub take_least-requires-clause-above : goal.take_least-requires-clause-above
@@ -48,7 +49,7 @@ returns-clause-closes g c t a ty tree holds ordered low d =
     pulled_up g.H.GcHeap.KIND c.args.store.now t a holds ty tree c.args.key c.args.path.now.items c.args.node ordered low d c.args.right c.requires.right c.take_least.new.store c.take_least.new.path.items
     c.in-Ok.least (takes_passed g.H.GcHeap.KIND c.args.store.now c.args.right c.take_least.new.path.items c.take_least.new.store c.args.key c.ranges.key (Ok c.in-Ok.least) c.in-Ok.ensures.takes) c.take_least.ensures.same
     c.step_right-step.result c.step_right-step.ensures.goes_right c.step_right-step.ensures.key c.step_right-step.ensures.value c.step_right-step.ensures.other
-    c.part_of.new.store c.part_of.ensures.same c.part_of.result c.part_of.ensures.reads c.append.new.self.items
+    c.take_least.new.store (same_here c.take_least.new.store) c.part_of.result (part_reads g.H.GcHeap.KIND c.take_least.new.store c.in-Ok.least.other c.part_of.result c.part_of.ensures) c.append.new.self.items
     (added c.append.result (c.push.new.self.items ++ c.take_least.new.path.items) c.push.new.self.items c.append.new.self.items (sym c.is_err-2.ensures.value ∙ c.if-is_err-2.false) c.append.ensures.items
     ∙ ap (λ (fs : List Frame). fs ++ c.take_least.new.path.items)
     (added c.push.result (c.args.path.now.items ++ c.step_right-step.result ∷ []) c.args.path.now.items c.push.new.self.items (sym c.is_err.ensures.value ∙ c.if-is_err.false) c.push.ensures.items))

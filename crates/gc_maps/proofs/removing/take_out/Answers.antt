@@ -14,6 +14,7 @@ use Rattle.gc_maps.specs.Trees.{Tree, pairs}
 use Rattle.gc_maps.proofs.Lookups.{root_low}
 use Rattle.gc_maps.proofs.Putting.{read_refused}
 use Rattle.gc_maps.proofs.TakingOut.{closes_passed, gap_in, gap_passed, gap_refused, rises_in, root_in, stays, taken_out}
+use Rattle.gc_maps.proofs.NodeReads.{part_reads}
 use Rattle.gc_maps.proofs.removing.take_out.Given as given
 use Rattle.gc_maps.proofs.removing.take_out.Goals as goal
 use Rattle.gc_maps.proofs.removing.take_out.Goals.{In-Ok}
@@ -53,7 +54,7 @@ returns-in-None-clause-takes_out g c t a tree holds is ordered =
     let before = (goal.at.returns-in-None-clause-takes_out g c).In-Ok in
     stays g.H.GcHeap.KIND c.args.kit.now c.args.store.now c.descend.new.store c.descend.ensures.same tree c.args.key c.descend.new.path.items
     t a holds ordered (root_low c.args.store.now t c.args.kit.now.node c.args.root tree is ordered) c.args.root is (at g before None c.in-None.is t a tree holds is ordered)
-    c.part_of.new.store c.part_of.result (g.L.ResourceLimiter.limits c.args.limiter.now) (g.L.ResourceLimiter.limits c.args.limiter.now) c.part_of.ensures.reads
+    c.descend.new.store c.part_of.result (g.L.ResourceLimiter.limits c.args.limiter.now) (g.L.ResourceLimiter.limits c.args.limiter.now) (part_reads g.H.GcHeap.KIND c.descend.new.store c.args.root c.part_of.result c.part_of.ensures)
 
 pub close_gap-requires : goal.close_gap-requires
 close_gap-requires g c =

@@ -4,6 +4,7 @@ use Rattle.gc_policy.proofs.AccountLemmas.{some_account}
 use Rattle.gc_lists.proofs.Limiting.{counts_same, counts_twice}
 use Rattle.gc_maps.proofs.Growing.{same_then}
 use Rattle.gc_maps.proofs.Climbing.{climb_start, climb_done, sibling_in, can, climb_refused, climb_next}
+use Rattle.gc_maps.proofs.NodeReads.{part_reads, same_here}
 use Rattle.gc_maps.proofs.ways.rebuild.Goals as goal
 
 pub loop-turn-init : goal.loop-turn-init
@@ -32,14 +33,14 @@ join-requires g c =
     let some = some_account g.H.GcHeap.KIND c.args.store.now q.table q.holds in
     can g.H.GcHeap.KIND (g.L.ResourceLimiter.limits c.args.limiter.now).limit c.args.kit.now c.args.store.now q.table some.0 some.1 q.whole q.entries q.balanced q.low c.loop-turn._turn (omega arith) c.pop.new.self.items c.loop-turn.path.items c.in-Some.frame
     c.in-Some.ensures.items c.loop-turn.store c.loop-turn.invariant.same c.loop-turn.part (c.loop-turn.invariant.climbs q.table some.0 q.whole q.entries some.1 q.balanced q.low q.rises)
-    c.part_of-other.new.store c.part_of-other.ensures.same c.part_of-other.result c.part_of-other.ensures.reads
+    c.loop-turn.store (same_here c.loop-turn.store) c.part_of-other.result (part_reads g.H.GcHeap.KIND c.loop-turn.store c.in-Some.frame.other c.part_of-other.result c.part_of-other.ensures)
     c.opened_at.result c.opened_at.ensures.left c.opened_at.ensures.key c.opened_at.ensures.value c.opened_at.ensures.right q.of_nodes
 
 pub returns-in-Err-clause-builds : goal.returns-in-Err-clause-builds
 returns-in-Err-clause-builds g c t a whole entries holds balanced low rises =
     climb_refused g.H.GcHeap.KIND (g.L.ResourceLimiter.limits c.args.limiter.now).limit c.args.kit.now c.args.store.now t a holds whole entries balanced low c.loop-turn._turn (omega arith) c.pop.new.self.items c.loop-turn.path.items c.in-Some.frame
     c.in-Some.ensures.items c.loop-turn.store c.loop-turn.invariant.same c.loop-turn.part (c.loop-turn.invariant.climbs t a whole entries holds balanced low rises)
-    c.part_of-other.new.store c.part_of-other.ensures.same c.part_of-other.result c.part_of-other.ensures.reads
+    c.loop-turn.store (same_here c.loop-turn.store) c.part_of-other.result (part_reads g.H.GcHeap.KIND c.loop-turn.store c.in-Some.frame.other c.part_of-other.result c.part_of-other.ensures)
     c.opened_at.result c.opened_at.ensures.left c.opened_at.ensures.key c.opened_at.ensures.value c.opened_at.ensures.right
     c.join.new.store (g.L.ResourceLimiter.limits c.args.limiter.now) (g.L.ResourceLimiter.limits c.loop-turn.limiter) (g.L.ResourceLimiter.limits c.join.new.limiter) c.loop-turn.invariant.counts (c.join.ensures.limit ∙ c.loop-turn.invariant.limit) c.in-Err.fault c.in-Err.ensures.joins
 
@@ -48,12 +49,12 @@ loop-turn-preserved g c = record {
   climbs = λ t a whole entries holds balanced low rises.
       climb_next g.H.GcHeap.KIND (g.L.ResourceLimiter.limits c.args.limiter.now).limit c.args.kit.now c.args.store.now t a holds whole entries balanced low c.loop-turn._turn (omega arith) c.pop.new.self.items c.loop-turn.path.items c.in-Some.frame
       c.in-Some.ensures.items c.loop-turn.store c.loop-turn.invariant.same c.loop-turn.part (c.loop-turn.invariant.climbs t a whole entries holds balanced low rises)
-      c.part_of-other.new.store c.part_of-other.ensures.same c.part_of-other.result c.part_of-other.ensures.reads
+      c.loop-turn.store (same_here c.loop-turn.store) c.part_of-other.result (part_reads g.H.GcHeap.KIND c.loop-turn.store c.in-Some.frame.other c.part_of-other.result c.part_of-other.ensures)
       c.opened_at.result c.opened_at.ensures.left c.opened_at.ensures.key c.opened_at.ensures.value c.opened_at.ensures.right
       c.join.new.store (g.L.ResourceLimiter.limits c.args.limiter.now) (g.L.ResourceLimiter.limits c.loop-turn.limiter) (g.L.ResourceLimiter.limits c.join.new.limiter) c.loop-turn.invariant.counts (c.join.ensures.limit ∙ c.loop-turn.invariant.limit) c.join.ensures.same c.in-Ok.joined c.in-Ok.ensures.joins;
   limit = c.join.ensures.limit ∙ c.loop-turn.invariant.limit;
   counts = counts_twice (g.L.ResourceLimiter.limits c.args.limiter.now) (g.L.ResourceLimiter.limits c.loop-turn.limiter) (g.L.ResourceLimiter.limits c.join.new.limiter) c.loop-turn.invariant.counts c.join.ensures.counts;
-  same = same_then c.args.store.now c.part_of-other.new.store c.join.new.store (same_then c.args.store.now c.loop-turn.store c.part_of-other.new.store c.loop-turn.invariant.same c.part_of-other.ensures.same) c.join.ensures.same;
+  same = same_then c.args.store.now c.loop-turn.store c.join.new.store c.loop-turn.invariant.same c.join.ensures.same;
 }
 
 pub returns-clause-builds : goal.returns-clause-builds
