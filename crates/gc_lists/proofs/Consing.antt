@@ -50,7 +50,7 @@ use Rattle.gc_lists.proofs.Kept.{list_kept, appended_keeps}
 use Rattle.gc_lists.proofs.Pages.{gets_within, lacks_within, may_get_within}
 use Rattle.gc_lists.proofs.Refusing.{lacks_refused}
 use Rattle.gc_lists.proofs.Links.{cell_root, null_or_fits, struct_in_each}
-use Rattle.gc_lists.proofs.Scopes.{next_owned, next_scoped, left_scoped, full_lacks}
+use Rattle.gc_lists.proofs.Scopes.{next_owned, next_scoped, left_scoped, leave_counts, counts_same, full_lacks}
 use Rattle.gc_model.proofs.Lists.{slice_get-push_new}
 
 -- the fields of a cell's type
@@ -162,6 +162,7 @@ module _ {D : Type 0} (limit : Option ℕ) (kit : Kit) (t : Table D) where
     few = omega arith;
     of_kit = All-nil (IsOfKit kit);
     pushes = [];
+    counts = counts_same t u (ap (λ (v : Table D). v.drops) is) (ap (λ (v : Table D). v.owns) is);
     rest = is ∙ (λ i. record t { objects = sym (append-nil t.objects) i; pushes = sym (append-nil t.pushes) i; made = made; pages = pages })
         ∙ (λ i. record t { objects = t.objects ++ []; pushes = t.pushes ++ []; drops = ap (λ (v : Table D). v.drops) (sym is) i; owns = ap (λ (v : Table D). v.owns) (sym is) i; made = ap (λ (v : Table D). v.made) (sym is) i; pages = ap (λ (v : Table D). v.pages) (sym is) i });
     pages = keeps;
@@ -225,6 +226,7 @@ module _ {D : Type 0} (layouts : Layouts) (s : StoreView D) (t : Table D) (a : A
         few = omega arith;
         of_kit = made_of_kit;
         pushes = record { index = length t.scoped; generation = t.drops } ∷ [];
+        counts = leave_counts scope t now refl (omega arith);
         rest = λ i. record (leave scope now) { scoped = left_scoped scope t.scoped (record { serial = length t.pushes; reference = at (length t.objects) } ∷ []) scope_is i };
         pages = within (leave scope now) refl refl;
       }
@@ -235,6 +237,7 @@ module _ {D : Type 0} (layouts : Layouts) (s : StoreView D) (t : Table D) (a : A
         few = omega arith;
         of_kit = made_of_kit;
         pushes = record { index = length t.scoped; generation = t.drops } ∷ [];
+        counts = leave_counts scope t (own (at (length t.objects)) now) refl (omega arith);
         rest = λ i. record (leave scope (own (at (length t.objects)) now)) { scoped = left_scoped scope t.scoped (record { serial = length t.pushes; reference = at (length t.objects) } ∷ []) scope_is i };
         pages = within (leave scope (own (at (length t.objects)) now)) refl refl;
       }

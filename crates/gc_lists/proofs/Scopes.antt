@@ -1,5 +1,5 @@
 -- What is left of a table where a scope of a call ends: what was pushed in it is gone.
-use Rattle.std.proofs.Common.{◌≡◌, ◌≢◌, ℕ, zero, suc, ◌-◌, ◌<◌, ◌^◌, ◌||◌, ◌==◌, nat_le, true, false, cond, List, [], ◌∷◌, ◌++◌, length, take, Some, None, Contains, inl, inr, refl, sym, ap, ◌∙◌, arith, eq-eqb, ne_eqb}
+use Rattle.std.proofs.Common.{◌≡◌, ◌≢◌, Bool, if◌then◌else◌, min, nat_lt, subst, ℕ, zero, suc, ◌+◌, ◌-◌, ◌<◌, ◌≤◌, ◌^◌, ◌||◌, ◌==◌, nat_le, true, false, cond, List, [], ◌∷◌, ◌++◌, length, take, Some, None, Contains, inl, inr, refl, sym, ap, ◌∙◌, arith, eq-eqb, ne_eqb}
 use Rattle.std.specs.List.{slice_get}
 use Rattle.std.proofs.Math.Seq.{take-append_seam}
 use Rattle.std.proofs.lemmas.List.{append-nil}
@@ -19,7 +19,7 @@ use Rattle.gc_model.proofs.Lists.{slice_get-push_new}
 use Rattle.gc_policy.specs.Accounts.{Account, HoldsAccount}
 use Rattle.gc_values.specs.declared.root.GcRootIndex.{GcRootIndex}
 use Rattle.gc_store.specs.Roots.{handle_of, NamesReference}
-use Rattle.gc_lists.specs.Frames.{ChangesOwned, Leaves}
+use Rattle.gc_lists.specs.Frames.{CountsStay, ChangesOwned, Leaves}
 use Rattle.gc_lists.specs.Refusals.{LacksScoped}
 
 -- a root at the end is found by its number, where no other has it
@@ -74,11 +74,28 @@ module _ {D : Type 0} (layouts : Layouts) (s : StoreView D) (t : Table D) (holds
 pub left_scoped : (scope : ℕ) (stood more : List Scoped) → scope ≡ length stood → take scope (stood ++ more) ≡ stood
 left_scoped scope stood more is = ap (λ n. take n (stood ++ more)) is ∙ take-append_seam stood more
 
+-- a scope end that is counted, or not
+pub drops_more : (b : Bool) (drops : ℕ) → min drops (2 ^ 64 - 1) ≤ (if b then min (drops + 1) (2 ^ 64 - 1) else drops)
+drops_more true drops = omega arith
+drops_more false drops = omega arith
+
+-- no count falls where a scope is left
+pub leave_counts : {D : Type 0} (mark : ℕ) (t w : Table D) → w.drops ≡ t.drops → t.owns ≤ w.owns → CountsStay t (leave mark w)
+leave_counts mark t w same owns = record {
+  drops = subst (λ (n : ℕ). min n (2 ^ 64 - 1) ≤ (leave mark w).drops) same (drops_more (nat_lt mark (length w.scoped)) w.drops);
+  owns = owns;
+}
+
+-- nor where neither changes
+pub counts_same : {D : Type 0} (t u : Table D) → u.drops ≡ t.drops → u.owns ≡ t.owns → CountsStay t u
+counts_same t u drops owns = record { drops = omega (arith, drops); owns = omega (arith, owns) }
+
 module _ {D : Type 0} (t : Table D) (scope : ℕ) (is : scope ≡ length t.scoped) (r : Reference) where
   -- a root was pushed, an owned root made for it, and the scope left
   pub rooted_left : ChangesOwned t (own r t).owned (leave scope (own r (push r t)))
   rooted_left = record {
     pushes = record { index = length t.scoped; generation = t.drops } ∷ [];
+    counts = leave_counts scope t (own r (push r t)) refl (omega arith);
     rest = λ i. record (leave scope (own r (push r t))) { scoped = left_scoped scope t.scoped (record { serial = length t.pushes; reference = r } ∷ []) is i };
   }
 
@@ -86,12 +103,13 @@ module _ {D : Type 0} (t : Table D) (scope : ℕ) (is : scope ≡ length t.scope
   pub pushed_left : ChangesOwned t t.owned (leave scope (push r t))
   pushed_left = record {
     pushes = record { index = length t.scoped; generation = t.drops } ∷ [];
+    counts = leave_counts scope t (push r t) refl (omega arith);
     rest = λ i. record (leave scope (push r t)) { scoped = left_scoped scope t.scoped (record { serial = length t.pushes; reference = r } ∷ []) is i };
   }
 
 -- nothing has changed
 pub nothing_changed : {D : Type 0} (t : Table D) → ChangesOwned t t.owned t
-nothing_changed t = record { pushes = []; rest = λ i. record t { pushes = sym (append-nil t.pushes) i } }
+nothing_changed t = record { pushes = []; counts = counts_same t t refl refl; rest = λ i. record t { pushes = sym (append-nil t.pushes) i } }
 
 pub leaves_as_it_was : {D : Type 0} (layouts : Layouts) (t : Table D) (a : Account) (new : StoreView D) → HoldsAccount layouts new t a → Leaves layouts (ChangesOwned t t.owned) new
 leaves_as_it_was layouts t a new holds = record { after = t; account = a; holds = holds; changed = nothing_changed t }

@@ -34,7 +34,7 @@ use Rattle.gc_lists.specs.Refusals.{LacksScoped}
 use Rattle.gc_lists.specs.Versions.{IsListIn, StandsForList, VersionNames}
 use Rattle.gc_lists.proofs.CellReads.{first_cell}
 use Rattle.gc_lists.proofs.Keeping.{owned_same}
-use Rattle.gc_lists.proofs.Scopes.{next_scoped, left_scoped, full_lacks}
+use Rattle.gc_lists.proofs.Scopes.{next_scoped, left_scoped, leave_counts, full_lacks}
 
 -- These numbers were read, and the handle names the list of the rest.
 pub record Walked {D : Type 0} (layouts : Layouts) (t : Table D) (a : Account) (xs : List ℤ) (read : List ℤ) (here : Option GcRootIndex) (s : StoreView D) : Type 0 where
@@ -262,7 +262,7 @@ module _ {D : Type 0} (layouts : Layouts) (t : Table D) (a : Account) (xs : List
         after = leave scope w;
         account = a;
         holds = subst (λ (u : Table D). HoldsAccount layouts new (leave scope u) a) there.pushed.is (leaves there.now there.holds);
-        changed = record { pushes = there.pushed.pushes; rest = λ i. record (leave scope w) { scoped = left_scoped scope t.scoped there.pushed.scoped scope_is i } };
+        changed = record { pushes = there.pushed.pushes; counts = leave_counts scope t w refl (omega arith); rest = λ i. record (leave scope w) { scoped = left_scoped scope t.scoped there.pushed.scoped scope_is i } };
       }
 
   lacks_room : (there : HoldsPushed layouts t a (length xs) mid) → roots_full there.now ≡ true → LacksScoped t (length xs + most_objects)

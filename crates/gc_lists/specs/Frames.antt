@@ -1,5 +1,5 @@
 -- What calls on lists and maps change of the table, and nothing more.
-use Rattle.std.specs.Prelude.{◌≡◌, ◌≤◌, ℕ, true, List, ◌++◌, Option, All, length}
+use Rattle.std.specs.Prelude.{◌≡◌, ◌≤◌, ◌-◌, ◌^◌, min, ℕ, true, List, ◌++◌, Option, All, length}
 use Rattle.gc_types.specs.declared.kind.Layouts.{Layouts}
 use Rattle.gc_model.specs.Values.{Object}
 use Rattle.gc_model.specs.Allocation.{MayHave}
@@ -13,9 +13,15 @@ use Rattle.gc_lists.specs.Cells.{IsOfKit}
 abbrev pub most_objects : ℕ
 most_objects = 1024
 
+-- What is counted never falls: the scope ends that dropped a root, up to 2^64 - 1, and the owned roots that were made. So no handle comes again.
+pub record CountsStay {D : Type 0} (t after : Table D) : Type 0 where
+  pub drops : min t.drops (2 ^ 64 - 1) ≤ after.drops
+  pub owns : t.owns ≤ after.owns
+
 -- Roots were pushed and are gone, owned roots may have been made, and these stand now.
 pub record ChangesOwned {D : Type 0} (t : Table D) (owned : List Owned) (after : Table D) : Type 0 where
   pub pushes : List Push
+  pub counts : CountsStay t after
   pub rest : after ≡ record t { pushes = t.pushes ++ pushes; drops = after.drops; owns = after.owns; owned = owned }
 
 -- The heap has the pages that it had; or it was made or has grown, lost none, and has no more than a limit that is told grants.
@@ -29,6 +35,7 @@ pub record ChangesObjects {D : Type 0} (limit : Option ℕ) (kit : Kit) (most : 
   pub few : length made ≤ most
   pub of_kit : All (IsOfKit kit) made
   pub pushes : List Push
+  pub counts : CountsStay t after
   pub rest : after
       ≡ record t { objects = t.objects ++ made; pushes = t.pushes ++ pushes; drops = after.drops; owns = after.owns; owned = owned; made = after.made; pages = after.pages }
   pub pages : KeepsLimit limit t after

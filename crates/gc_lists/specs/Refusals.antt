@@ -10,7 +10,7 @@ use Rattle.gc_lists.specs.Frames.{most_objects}
 abbrev pub LacksScoped : {D : Type 0} → Table D → ℕ → Type 0
 LacksScoped t count = (t.max_scoped < length t.scoped + count) ⊎ (t.drops ≡ 2 ^ 64 - 1)
 
--- why a call that reads or makes objects may be refused a root, and one that also answers a version
+-- why a call that makes objects, or copies a map out, may be refused a root, and one that also answers a version
 abbrev pub LacksCallRoots : {D : Type 0} → Table D → Type 0
 LacksCallRoots t = LacksScoped t most_objects
 

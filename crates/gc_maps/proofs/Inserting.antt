@@ -38,6 +38,7 @@ use Rattle.gc_maps.specs.Answers.{AnswersMap, AreEntries}
 use Rattle.gc_maps.specs.Gaps.{others}
 use Rattle.gc_maps.proofs.Naming.{held_table}
 use Rattle.gc_maps.proofs.Growing.{grows_within}
+use Rattle.gc_lists.proofs.Scopes.{leave_counts}
 use Rattle.gc_maps.proofs.Leaving.{take_front, lacks_roots, map_root, map_search}
 use Rattle.gc_maps.proofs.Removals.{entries_without}
 
@@ -61,6 +62,7 @@ module _ {D : Type 0} (limit : Option ℕ) (kit : Kit) (t : Table D) where
     few = omega (arith, few, below);
     of_kit = grows.of_kit;
     pushes = grows.pushes;
+    counts = let owns : u.owns ≡ t.owns = ap (λ (w : Table D). w.owns) grows.rest in leave_counts (length t.scoped) t u (ap (λ (w : Table D). w.drops) grows.rest) (omega (arith, owns));
     rest = ap (leave (length t.scoped)) grows.rest ∙ (λ i. record t {
       objects = t.objects ++ grows.made;
       scoped = take_front t.scoped grows.scoped i;
@@ -79,6 +81,7 @@ module _ {D : Type 0} (limit : Option ℕ) (kit : Kit) (t : Table D) where
     few = omega (arith, few, below);
     of_kit = grows.of_kit;
     pushes = grows.pushes;
+    counts = let owns : u.owns ≡ t.owns = ap (λ (w : Table D). w.owns) grows.rest in leave_counts (length t.scoped) t (own r u) (ap (λ (w : Table D). w.drops) grows.rest) (omega (arith, owns));
     rest = ap (λ (w : Table D). leave (length t.scoped) (own r w)) grows.rest ∙ (λ i. record t {
       objects = t.objects ++ grows.made;
       scoped = take_front t.scoped grows.scoped i;

@@ -17,6 +17,7 @@ use Rattle.gc_maps.specs.Maps.{IntMap, StandsForMapOf, MapStands}
 use Rattle.gc_maps.specs.Parts.{NamesLink, RootIs}
 use Rattle.gc_maps.specs.Searching.{IsSearch, SearchIn}
 use Rattle.gc_maps.specs.Ends.{Pushes}
+use Rattle.gc_lists.proofs.Scopes.{leave_counts}
 use Rattle.gc_maps.proofs.Sizes.{square}
 
 pub take_front : {X : Type 0} (xs ys : List X) → take (length xs) (xs ++ ys) ≡ xs
@@ -31,6 +32,7 @@ module _ {D : Type 0} (t : Table D) where
   pub pushes_left : (most : ℕ) (u : Table D) → Pushes most t u → ChangesOwned t t.owned (leave (length t.scoped) u)
   pushes_left most u pushes = subst (λ (w : Table D). ChangesOwned t t.owned (leave (length t.scoped) w)) (sym pushes.rest) (record {
     pushes = pushes.pushes;
+    counts = leave_counts (length t.scoped) t (record t { scoped = t.scoped ++ pushes.scoped; pushes = t.pushes ++ pushes.pushes }) refl (omega arith);
     rest = λ i. record t {
       scoped = take_front t.scoped pushes.scoped i;
       pushes = t.pushes ++ pushes.pushes;

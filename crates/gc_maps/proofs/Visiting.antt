@@ -23,6 +23,7 @@ use Rattle.gc_maps.specs.Parts.{RootIs, NodeIs, node_of}
 use Rattle.gc_maps.specs.Ends.{Pushes, EndsReading}
 use Rattle.gc_maps.specs.Copies.{VisitsNodes, LacksVisits, StopsForRoots, RootWithin, NodeWithin, EndsCopying, CopiedEntries, FailsToCopyEntries}
 use Rattle.gc_maps.proofs.Naming.{Keeps, keeps_then, names_more, root_kept, held_table}
+use Rattle.gc_lists.proofs.Scopes.{drops_more}
 use Rattle.gc_maps.proofs.Growing.{pushes_none}
 use Rattle.gc_maps.proofs.NodeReads.{not_null}
 use Rattle.gc_maps.proofs.Lookups.{root_low}
@@ -47,6 +48,7 @@ module _ {D : Type 0} where
         few = pushes.few;
         pushes = pushes.pushes;
         ended = omega (arith, same);
+        onward = omega (arith, same);
         rest = pushes.rest ∙ (λ i. record t { scoped = t.scoped ++ pushes.scoped; pushes = t.pushes ++ pushes.pushes; drops = sym same i });
       }
 
@@ -56,7 +58,7 @@ module _ {D : Type 0} where
   pub visits_within : (m a n b : ℕ) (t u : Table D) → m ≤ n → a ≤ b → VisitsNodes m a t u → VisitsNodes n b t u
   visits_within m a n b t u below fewer visits =
       let few = visits.few in let ended = visits.ended in
-      record { scoped = visits.scoped; few = omega (arith, few, below); pushes = visits.pushes; ended = omega (arith, ended, fewer); rest = visits.rest }
+      record { scoped = visits.scoped; few = omega (arith, few, below); pushes = visits.pushes; ended = omega (arith, ended, fewer); onward = visits.onward; rest = visits.rest }
 
   pub visits_then : (m a n b : ℕ) (t u v : Table D) → VisitsNodes m a t u → VisitsNodes n b u v → VisitsNodes (m + n) (a + b) t v
   visits_then m a n b t u v first second =
@@ -67,6 +69,7 @@ module _ {D : Type 0} where
         few = omega (arith, p, q, e);
         pushes = first.pushes ++ second.pushes;
         ended = omega (arith, x, y);
+        onward = let i = first.onward in let j = second.onward in omega (arith, i, j);
         rest = second.rest ∙ ap (λ (w : Table D). record w { scoped = w.scoped ++ second.scoped; pushes = w.pushes ++ second.pushes; drops = v.drops }) first.rest
             ∙ (λ i. record t { scoped = append_assoc t.scoped first.scoped second.scoped i; pushes = append_assoc t.pushes first.pushes second.pushes i; drops = v.drops });
       }
@@ -95,6 +98,7 @@ module _ {D : Type 0} where
         few = omega arith;
         pushes = visits.pushes;
         ended = ended_more (nat_lt (length t.scoped) (length u.scoped)) u.drops ends t.drops visits.ended;
+        onward = let i = visits.onward in let j = drops_more (nat_lt (length t.scoped) (length u.scoped)) u.drops in omega (arith, i, j);
         rest = ap (leave (length t.scoped)) visits.rest
             ∙ (λ i. record t { scoped = (take_front t.scoped visits.scoped ∙ sym (append-nil t.scoped)) i; pushes = t.pushes ++ visits.pushes; drops = (leave (length t.scoped) w).drops })
             ∙ (λ i. record t { scoped = t.scoped ++ []; pushes = t.pushes ++ visits.pushes; drops = (leave (length t.scoped) (sym visits.rest i)).drops });
@@ -104,6 +108,7 @@ module _ {D : Type 0} where
   pub visits_change : (ends : ℕ) (t u : Table D) → VisitsNodes 0 ends t u → ChangesOwned t t.owned u
   visits_change ends t u visits = record {
     pushes = visits.pushes;
+    counts = let same : u.owns ≡ t.owns = ap (λ (w : Table D). w.owns) visits.rest in record { drops = visits.onward; owns = omega (arith, same) };
     rest = visits.rest
         ∙ (λ i. record t { scoped = (ap (λ (xs : List Scoped). t.scoped ++ xs) (empty_list visits.scoped visits.few) ∙ append-nil t.scoped) i; pushes = t.pushes ++ visits.pushes; drops = u.drops })
         ∙ (λ i. record t { pushes = t.pushes ++ visits.pushes; drops = u.drops; owns = (sym visits.rest i).owns });

@@ -1,5 +1,5 @@
 -- How the entries of a map are copied out: what that leaves of the table, and why it is refused.
-use Rattle.std.specs.Prelude.{◌≡◌, ◌⊎◌, ◌+◌, ◌-◌, ◌≤◌, ◌<◌, ◌^◌, ℕ, ℤ, true, List, ◌++◌, Option, Result, Ok, Err, length}
+use Rattle.std.specs.Prelude.{◌≡◌, min, ◌⊎◌, ◌+◌, ◌-◌, ◌≤◌, ◌<◌, ◌^◌, ℕ, ℤ, true, List, ◌++◌, Option, Result, Ok, Err, length}
 use Rattle.std.specs.FinMap as finite
 use Rattle.gc_types.specs.declared.kind.Layouts.{Layouts}
 use Rattle.gc_model.specs.Live.{roots_full}
@@ -15,12 +15,13 @@ use Rattle.gc_maps.specs.Parts.{RootIn, NodeIn, node_of}
 use Rattle.gc_maps.specs.Trees.{height}
 
 -- At most so many scoped roots were pushed that stand, others were pushed and are gone, and the scope ends that dropped a
--- root are at most so many more.
+-- root are at most so many more, and no fewer.
 pub record VisitsNodes {D : Type 0} (most ends : ℕ) (t u : Table D) : Type 0 where
   pub scoped : List Scoped
   pub few : length scoped ≤ most
   pub pushes : List Push
   pub ended : u.drops ≤ t.drops + ends
+  pub onward : min t.drops (2 ^ 64 - 1) ≤ u.drops
   pub rest : u ≡ record t { scoped = t.scoped ++ scoped; pushes = t.pushes ++ pushes; drops = u.drops }
 
 -- Fewer than so many scoped roots are left, or the count of scope ends may come to its end with so many more of them. A

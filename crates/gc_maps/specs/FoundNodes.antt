@@ -43,7 +43,7 @@ word_found (Ref class word) = word
 abbrev pub link_found : ℕ → Found
 link_found word = Ref Any word
 
--- the word is that of the tree's topmost node
+-- the word is that of a reference that is that tree: 0 where it has no nodes
 pub record HasTree {D : Type 0} (t : Table D) (place : Placing) (ty word : ℕ) (tree : Tree) : Type 0 where
   pub root : Reference
   pub is_word : IsWord place root word

@@ -52,7 +52,7 @@ impl HeapMap {
     /// The value of a key; None where the map has no such key. It takes a step for each node that it reads: with n keys and s
     /// steps, 2^s is at most the square of n + 1. It makes no root, and leaves the store as it was.
     ///
-    /// `WrongStore` where the map is another store's; refused in no other way.
+    /// `WrongStore` where the map is another store's; it is refused in no other way.
     pub fn get<H: GcHeap, D: Drop, G: Ledger>(
         &self,
         store: &mut Store<H, D>,

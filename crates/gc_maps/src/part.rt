@@ -42,6 +42,6 @@ pub(crate) struct Frame {
     pub(crate) goes_left: bool,
     pub(crate) key: i64,
     pub(crate) value: i64,
-    /// The other child.
+    /// A root of the other child; none where that is null.
     pub(crate) other: Option<GcRootIndex>,
 }

@@ -78,7 +78,7 @@ fn word_found(found: &Found) -> u32
 
 /// A root of what a link with that word names; none where it is null.
 #[inline(always)]
-pub(crate) fn link_of<H: GcHeap, D: Drop>(
+pub(crate) fn give_link<H: GcHeap, D: Drop>(
     store: &mut Store<H, D>,
     word: u32,
 ) -> Result<Option<GcRootIndex>, ListFault>
@@ -109,7 +109,7 @@ pub(crate) fn word_of<H: GcHeap, D: Drop>(store: &Store<H, D>, root: Option<GcRo
     }
 }
 
-/// What lies in the node that has that word.
+/// The key and the value of the node that has that word, and the words of its children.
 #[inline(always)]
 pub(crate) fn find_node<H: GcHeap, D: Drop>(store: &Store<H, D>, word: u32) -> FoundNode
     requires { NodeWordIn D H.KIND store.now word }
@@ -139,11 +139,11 @@ pub(crate) fn give_node<H: GcHeap, D: Drop>(
         → EndsReading H.KIND 2 t (λ s u read. NodeIs s u ty read x k v y) result store.new }
     ensures same { IsSameStore store.old store.new }
 {
-    let left = match link_of(store, found.left) {
+    let left = match give_link(store, found.left) {
         Ok(left) => left,
         Err(fault) => return Err(fault),
     };
-    match link_of(store, found.right) {
+    match give_link(store, found.right) {
         Ok(right) => Ok(Node {
             key: found.key,
             value: found.value,
@@ -166,7 +166,7 @@ pub(crate) fn read_node<H: GcHeap, D: Drop>(
         → EndsReading H.KIND 2 t (λ s u read. NodeIs s u ty read x k v y) result store.new }
     ensures same { IsSameStore store.old store.new }
 {
-    // the word finds the node once for all that is read of it, before a root is made
+    // The word finds the node once for all that is read of it, before a root is made.
     let word = word_of(store, Some(node));
     let found = find_node(store, word);
     give_node(store, found)

@@ -19,7 +19,7 @@ use crate::finding::{MOST_HEIGHT, toward};
 use crate::joining::join;
 use crate::making::make_node;
 use crate::part::{FoundNode, Frame, Node, Opened, Part};
-use crate::reading::{find_node, give_node, link_of, part_of, word_of};
+use crate::reading::{find_node, give_link, give_node, part_of, word_of};
 use gc_heap::GcHeap;
 use gc_lists::{Kit, ListFault};
 use gc_store::{GcRootIndex, ResourceLimiter, Store};
@@ -38,7 +38,7 @@ fn away(node: &FoundNode, order: Ordering) -> u32
 }
 
 /// The frame of a step from a node to the child on whose side a key stands that compares so with the node's: `other` is a root
-/// of the other child.
+/// of the other child, or none where that is null.
 #[inline(always)]
 fn frame_of(node: &FoundNode, order: Ordering, other: Option<GcRootIndex>) -> Frame
     ensures goes_left { result.goes_left ≡ is_lt order }
@@ -54,10 +54,11 @@ fn frame_of(node: &FoundNode, order: Ordering, other: Option<GcRootIndex>) -> Fr
     }
 }
 
-/// A path gets room for so many frames at once: no tree of 4,000 nodes is higher, so most paths take memory once.
+/// A path gets room for so many frames at once: no tree of fewer than 4,180 nodes is higher, so most paths take memory once.
 const USUAL_HEIGHT: usize = 16;
 
-/// Goes down to a key, and answers its node, where there is one. The path takes a frame for each node above it.
+/// Goes from word to word down to a key, and answers its node with roots of its children, where there is one. The path takes a
+/// frame for each node on the way before it, with a root of the child beside the way; no other root is made.
 pub(crate) fn descend<H: GcHeap, D: Drop>(
     store: &mut Store<H, D>,
     root: Option<GcRootIndex>,
@@ -87,7 +88,7 @@ pub(crate) fn descend<H: GcHeap, D: Drop>(
                 Err(fault) => Err(fault),
             };
         }
-        let other = match link_of(store, away(&node, order)) {
+        let other = match give_link(store, away(&node, order)) {
             Ok(other) => other,
             Err(fault) => return Err(fault),
         };

@@ -63,28 +63,28 @@ returns-in-Err-clause-descends g c t a ty tree holds is search =
     (subst (λ (z : ℤ). Descends g.H.GcHeap.KIND t ty tree z c.loop-turn._turn c.loop-turn.path.items c.loop-turn.store c.loop-turn.here) (to_z-of_z w64 c.args.key c.ranges.key) (c.loop-turn.invariant.descends t a ty tree holds is search))
     c.in-Err.fault c.in-Err.ensures.reads (λ s u found. Descended s u ty tree c.args.key c.loop-turn.path.items found)
 
-pub link_of-requires : goal.link_of-requires
-link_of-requires g c =
+pub give_link-requires : goal.give_link-requires
+give_link-requires g c =
     let q = c.requires.search in
     let some = some_account g.H.GcHeap.KIND c.args.store.now q.table q.holds in
     subst (λ (word : ℕ). IsFoundHere g.row.D.Denot g.H.GcHeap.KIND c.loop-turn.store (link_found word)) (sym c.away.ensures)
     (link_there g.H.GcHeap.KIND q.table q.ty q.tree c.args.key c.loop-turn._turn c.loop-turn.path.items c.loop-turn.store c.loop-turn.here c.if-here-eq0.false c.find_node-node.result c.find_node-node.ensures c.cmp-order.result (c.cmp-order.ensures ∙ ap (λ (z : ℤ). int_cmp z c.find_node-node.result.key) (to_z-of_z w64 c.args.key c.ranges.key)) (sym c.is_eq.ensures ∙ c.if-is_eq.false)
     (subst (λ (z : ℤ). Descends g.H.GcHeap.KIND q.table q.ty q.tree z c.loop-turn._turn c.loop-turn.path.items c.loop-turn.store c.loop-turn.here) (to_z-of_z w64 c.args.key c.ranges.key) (c.loop-turn.invariant.descends q.table some.0 q.ty q.tree some.1 q.is q.search)))
 
-pub returns-in-Err-link_of-clause-descends : goal.returns-in-Err-link_of-clause-descends
-returns-in-Err-link_of-clause-descends g c t a ty tree holds is search =
+pub returns-in-Err-give_link-clause-descends : goal.returns-in-Err-give_link-clause-descends
+returns-in-Err-give_link-clause-descends g c t a ty tree holds is search =
     let below : c.loop-turn._turn < 92 = omega arith in
-    step_refused g.H.GcHeap.KIND t ty tree c.args.key c.loop-turn._turn c.loop-turn.path.items c.loop-turn.store c.loop-turn.here c.if-here-eq0.false c.find_node-node.result c.find_node-node.ensures c.cmp-order.result (c.cmp-order.ensures ∙ ap (λ (z : ℤ). int_cmp z c.find_node-node.result.key) (to_z-of_z w64 c.args.key c.ranges.key)) (sym c.is_eq.ensures ∙ c.if-is_eq.false) c.link_of.new.store c.link_of.ensures.same below
+    step_refused g.H.GcHeap.KIND t ty tree c.args.key c.loop-turn._turn c.loop-turn.path.items c.loop-turn.store c.loop-turn.here c.if-here-eq0.false c.find_node-node.result c.find_node-node.ensures c.cmp-order.result (c.cmp-order.ensures ∙ ap (λ (z : ℤ). int_cmp z c.find_node-node.result.key) (to_z-of_z w64 c.args.key c.ranges.key)) (sym c.is_eq.ensures ∙ c.if-is_eq.false) c.give_link.new.store c.give_link.ensures.same below
     (subst (λ (z : ℤ). Descends g.H.GcHeap.KIND t ty tree z c.loop-turn._turn c.loop-turn.path.items c.loop-turn.store c.loop-turn.here) (to_z-of_z w64 c.args.key c.ranges.key) (c.loop-turn.invariant.descends t a ty tree holds is search))
-    c.in-Err-link_of.fault
-    (subst (λ (word : ℕ). GivesRoot g.H.GcHeap.KIND c.loop-turn.store c.link_of.new.store c.link_of.ensures.same (link_found word) (Err c.in-Err-link_of.fault)) c.away.ensures c.in-Err-link_of.ensures.reads)
+    c.in-Err-give_link.fault
+    (subst (λ (word : ℕ). GivesRoot g.H.GcHeap.KIND c.loop-turn.store c.give_link.new.store c.give_link.ensures.same (link_found word) (Err c.in-Err-give_link.fault)) c.away.ensures c.in-Err-give_link.ensures.reads)
     (λ s u found. Descended s u ty tree c.args.key c.loop-turn.path.items found)
 
 pub returns-then-is_err-2-clause-descends : goal.returns-then-is_err-2-clause-descends
 returns-then-is_err-2-clause-descends g c t a ty tree holds is search =
     let below : c.loop-turn._turn < 92 = omega arith in
-    wanting g.H.GcHeap.KIND t ty tree c.args.key c.loop-turn._turn c.loop-turn.path.items c.loop-turn.store c.loop-turn.here c.if-here-eq0.false c.find_node-node.result c.find_node-node.ensures c.cmp-order.result (c.cmp-order.ensures ∙ ap (λ (z : ℤ). int_cmp z c.find_node-node.result.key) (to_z-of_z w64 c.args.key c.ranges.key)) (sym c.is_eq.ensures ∙ c.if-is_eq.false) c.link_of.new.store c.link_of.ensures.same c.in-Ok-link_of.other
-    (subst (λ (word : ℕ). GivesRoot g.H.GcHeap.KIND c.loop-turn.store c.link_of.new.store c.link_of.ensures.same (link_found word) (Ok c.in-Ok-link_of.other)) c.away.ensures c.in-Ok-link_of.ensures.reads)
+    wanting g.H.GcHeap.KIND t ty tree c.args.key c.loop-turn._turn c.loop-turn.path.items c.loop-turn.store c.loop-turn.here c.if-here-eq0.false c.find_node-node.result c.find_node-node.ensures c.cmp-order.result (c.cmp-order.ensures ∙ ap (λ (z : ℤ). int_cmp z c.find_node-node.result.key) (to_z-of_z w64 c.args.key c.ranges.key)) (sym c.is_eq.ensures ∙ c.if-is_eq.false) c.give_link.new.store c.give_link.ensures.same c.in-Ok-give_link.other
+    (subst (λ (word : ℕ). GivesRoot g.H.GcHeap.KIND c.loop-turn.store c.give_link.new.store c.give_link.ensures.same (link_found word) (Ok c.in-Ok-give_link.other)) c.away.ensures c.in-Ok-give_link.ensures.reads)
     below
     (subst (λ (z : ℤ). Descends g.H.GcHeap.KIND t ty tree z c.loop-turn._turn c.loop-turn.path.items c.loop-turn.store c.loop-turn.here) (to_z-of_z w64 c.args.key c.ranges.key) (c.loop-turn.invariant.descends t a ty tree holds is search))
 
@@ -96,15 +96,15 @@ pushed (Err f) x y new e is = absurd (cc)
 pub loop-turn-preserved : goal.loop-turn-preserved
 loop-turn-preserved g c = record {
   descends = λ t a ty tree holds is search.
-      let next = gone_on g.H.GcHeap.KIND t ty tree c.args.key c.loop-turn._turn c.loop-turn.path.items c.loop-turn.store c.loop-turn.here c.if-here-eq0.false c.find_node-node.result c.find_node-node.ensures c.cmp-order.result (c.cmp-order.ensures ∙ ap (λ (z : ℤ). int_cmp z c.find_node-node.result.key) (to_z-of_z w64 c.args.key c.ranges.key)) (sym c.is_eq.ensures ∙ c.if-is_eq.false) c.link_of.new.store c.link_of.ensures.same c.in-Ok-link_of.other
-      (subst (λ (word : ℕ). GivesRoot g.H.GcHeap.KIND c.loop-turn.store c.link_of.new.store c.link_of.ensures.same (link_found word) (Ok c.in-Ok-link_of.other)) c.away.ensures c.in-Ok-link_of.ensures.reads)
+      let next = gone_on g.H.GcHeap.KIND t ty tree c.args.key c.loop-turn._turn c.loop-turn.path.items c.loop-turn.store c.loop-turn.here c.if-here-eq0.false c.find_node-node.result c.find_node-node.ensures c.cmp-order.result (c.cmp-order.ensures ∙ ap (λ (z : ℤ). int_cmp z c.find_node-node.result.key) (to_z-of_z w64 c.args.key c.ranges.key)) (sym c.is_eq.ensures ∙ c.if-is_eq.false) c.give_link.new.store c.give_link.ensures.same c.in-Ok-give_link.other
+      (subst (λ (word : ℕ). GivesRoot g.H.GcHeap.KIND c.loop-turn.store c.give_link.new.store c.give_link.ensures.same (link_found word) (Ok c.in-Ok-give_link.other)) c.away.ensures c.in-Ok-give_link.ensures.reads)
       c.frame_of-frame.result c.frame_of-frame.ensures.goes_left c.frame_of-frame.ensures.key c.frame_of-frame.ensures.value c.frame_of-frame.ensures.other
       (subst (λ (z : ℤ). Descends g.H.GcHeap.KIND t ty tree z c.loop-turn._turn c.loop-turn.path.items c.loop-turn.store c.loop-turn.here) (to_z-of_z w64 c.args.key c.ranges.key) (c.loop-turn.invariant.descends t a ty tree holds is search)) in
-      subst (λ (z : ℤ). Descends g.H.GcHeap.KIND t ty tree z (c.loop-turn._turn + 1) c.push.new.self.items c.link_of.new.store c.toward-here.result) (sym (to_z-of_z w64 c.args.key c.ranges.key))
-      (subst (λ (fs : List Frame). Descends g.H.GcHeap.KIND t ty tree c.args.key (c.loop-turn._turn + 1) fs c.link_of.new.store c.toward-here.result)
+      subst (λ (z : ℤ). Descends g.H.GcHeap.KIND t ty tree z (c.loop-turn._turn + 1) c.push.new.self.items c.give_link.new.store c.toward-here.result) (sym (to_z-of_z w64 c.args.key c.ranges.key))
+      (subst (λ (fs : List Frame). Descends g.H.GcHeap.KIND t ty tree c.args.key (c.loop-turn._turn + 1) fs c.give_link.new.store c.toward-here.result)
       (pushed c.push.result (c.loop-turn.path.items ++ c.frame_of-frame.result ∷ []) c.loop-turn.path.items c.push.new.self.items (sym c.is_err-in-loop-turn.ensures.value ∙ c.if-is_err-2.false) c.push.ensures.items)
-      (subst (λ (word : ℕ). Descends g.H.GcHeap.KIND t ty tree c.args.key (c.loop-turn._turn + 1) (c.loop-turn.path.items ++ c.frame_of-frame.result ∷ []) c.link_of.new.store word) (sym c.toward-here.ensures) next));
-  same = same_then c.args.store.now c.loop-turn.store c.link_of.new.store c.loop-turn.invariant.same c.link_of.ensures.same;
+      (subst (λ (word : ℕ). Descends g.H.GcHeap.KIND t ty tree c.args.key (c.loop-turn._turn + 1) (c.loop-turn.path.items ++ c.frame_of-frame.result ∷ []) c.give_link.new.store word) (sym c.toward-here.ensures) next));
+  same = same_then c.args.store.now c.loop-turn.store c.give_link.new.store c.loop-turn.invariant.same c.give_link.ensures.same;
 }
 
 pub returns-clause-descends : goal.returns-clause-descends

@@ -7,7 +7,7 @@ use Rattle.gc_lists.specs.declared.fault.ListFault.{ListFault}
 use Rattle.gc_maps.specs.Ends.{EndsReading}
 use Rattle.gc_maps.specs.FoundNodes.{GivesLink}
 use Rattle.gc_maps.proofs.Values.{link_given, link_refused}
-use Rattle.gc_maps.proofs.reading.link_of.Goals as goal
+use Rattle.gc_maps.proofs.reading.give_link.Goals as goal
 
 pub returns-in-Ok-clause-reads : goal.returns-in-Ok-clause-reads
 returns-in-Ok-clause-reads g c t place r holds stands =
