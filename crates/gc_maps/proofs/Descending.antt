@@ -214,15 +214,18 @@ module _ {D : Type 0} (layouts : Layouts) (t : Table D) (ty : ℕ) (tree : Tree)
 
         -- a step to one of its children
         module _ (other : is_eq o ≡ false) where
-          -- the link that is not taken
-          away_at : (p : Ordering) → is_eq p ≡ false → (u : Table D) (place : Placing) → Holds layouts s u place → (x : Tree) (k v : ℤ) (y : Tree) → NodeFound (naming place s.ids) u ty found x k v y → IsFoundHere D layouts s (link_found (away found p))
-          away_at Less e u place holds x k v y at = record { table = u; place = place; holds = holds; value = reference Any at.right.root; stands = at.right.stands }
-          away_at Equal e u place holds x k v y at = absurd (cc)
-          away_at Greater e u place holds x k v y at = record { table = u; place = place; holds = holds; value = reference Any at.left.root; stands = at.left.stands }
+          -- the link that is not taken leads to a tree
+          some_link : (p : Ordering) → is_eq p ≡ false → (u : Table D) (place : Placing) (x : Tree) (k v : ℤ) (y : Tree) → NodeFound (naming place s.ids) u ty found x k v y
+              → (z : Tree) × LinkFound (naming place s.ids) u ty (link_found (away found p)) z
+          some_link Less e u place x k v y at = (y, at.right)
+          some_link Equal e u place x k v y at = absurd (cc)
+          some_link Greater e u place x k v y at = (x, at.left)
 
           link_in : (part : Tree) (u : Table D) (place : Placing) → Holds layouts s u place → HasTree u place ty here part → IsFoundHere D layouts s (link_found (away found o))
           link_in leaf u place holds has = absurd (some (leaf_zero u place ty here has))
-          link_in (node x k v y) u place holds has = away_at o other u place holds x k v y (finds u place ty x k v y holds has)
+          link_in (node x k v y) u place holds has =
+              let link = some_link o other u place x k v y (finds u place ty x k v y holds has) in
+              record { table = u; place = place; holds = holds; value = reference Any link.1.root; stands = link.1.stands }
 
           pub link_there : Descends layouts t ty tree key i frames s here → IsFoundHere D layouts s (link_found (away found o))
           link_there d = link_in d.part d.leaves.after d.place d.leaves.changed.1.0 d.leaves.changed.1.1.0
@@ -235,12 +238,6 @@ module _ {D : Type 0} (layouts : Layouts) (t : Table D) (ty : ℕ) (tree : Tree)
             -- the reference of the link, and the tree that it leads to
             abbrev LinkOf : Names → Table D → Tree → Type 0
             LinkOf names u z = LinkFound names u ty (link_found (away found o)) z
-
-            some_link : (p : Ordering) → is_eq p ≡ false → (u : Table D) (place : Placing) (x : Tree) (k v : ℤ) (y : Tree) → NodeFound (naming place s.ids) u ty found x k v y
-                → (z : Tree) × LinkFound (naming place s.ids) u ty (link_found (away found p)) z
-            some_link Less e u place x k v y at = (y, at.right)
-            some_link Equal e u place x k v y at = absurd (cc)
-            some_link Greater e u place x k v y at = (x, at.left)
 
             step_refused_at : (f : ListFault) → Links (Err f) → (part : Tree) (u : Table D) (place : Placing) → Holds layouts s u place → HasTree u place ty here part → Pushes i t u
                 → (Done : StoreView D → Table D → Option Node → Type 0) → EndsReading {A = Option Node} layouts (i + 1) t Done (Err f) s1

@@ -9,6 +9,7 @@ use Rattle.gc_maps.proofs.finding.look_up.Given as goal
 
 abbrev pub invariant-loop-turn : goal.invariant-loop-turn
 invariant-loop-turn g l = record {
-  looks : (t : Table g.row.D.Denot) (place : Placing) (ty : ℕ) (tree : Tree) → Holds g.H.GcHeap.KIND l.fn.store t place → RootIs l.fn.store t ty l.fn.root tree → IsSearch tree
+  looks : (t : Table g.row.D.Denot) (place : Placing) (ty : ℕ) (tree : Tree) → Holds g.H.GcHeap.KIND l.fn.store t place
+      → RootIs l.fn.store t ty l.fn.root tree → IsSearch tree
       → Looks t place ty tree l.key l._turn l.initial.steps l.steps l.here;
 }
