@@ -59,10 +59,11 @@ impl StructFields {
     }
 }
 
-/// An exception's parameters, with where they lie in each heap.
+/// An exception's parameters and the fields that they stand for, with where these lie in each heap.
 #[derive(Drop)]
 pub(crate) struct ExnParams {
     params: Vec<ValType>,
+    fields: Vec<FieldType>,
     layouts: ObjectLayouts,
 }
 
@@ -76,7 +77,7 @@ impl Model for ExnParams {
 
     ghost view = { λ e. e.params.items };
 
-    ghost invariant = { λ e. e.layouts ≡ object_layouts true (map constant_field e.params.items) };
+    ghost invariant = { λ e. (e.fields.items ≡ map constant_field e.params.items) × (e.layouts ≡ object_layouts true (map constant_field e.params.items)) };
 }
 
 impl ExnParams {
@@ -88,13 +89,25 @@ impl ExnParams {
         let fields = constant_fields(alloc, params)?;
         let layouts = ObjectLayouts::new(alloc, true, fields.as_slice())?;
         let params = Vec::from_slice(alloc, params)?;
-        Ok(ExnParams { params, layouts })
+        Ok(ExnParams {
+            params,
+            fields,
+            layouts,
+        })
     }
 
     pub(crate) fn as_slice(&self) -> &[ValType]
         ensures { result.now ≡ self.now }
     {
         self.params.as_slice()
+    }
+
+    /// The fields of an exception with these parameters.
+    #[inline(always)]
+    fn fields(&self) -> &[FieldType]
+        ensures { result.now ≡ map constant_field self.now }
+    {
+        self.fields.as_slice()
     }
 
     #[inline(always)]
@@ -269,14 +282,14 @@ impl Declared {
         }
     }
 
-    /// How many fields a struct or an exception has.
+    /// The fields of a struct or an exception.
     #[inline(always)]
-    pub(crate) fn fields_len(&self) -> Option<usize>
-        ensures { result ≡ option_map length (shape_fields self.now.shape) }
+    pub(crate) fn fields(&self) -> Option<&[FieldType]>
+        ensures { option_copied result ≡ shape_fields self.now.shape }
     {
         match &self.body {
-            Body::Struct(fields) => Some(fields.as_slice().len()),
-            Body::Exn(params) => Some(params.as_slice().len()),
+            Body::Struct(fields) => Some(fields.as_slice()),
+            Body::Exn(params) => Some(params.fields()),
             Body::Array(_) | Body::Func(_) => None,
         }
     }
@@ -293,6 +306,7 @@ impl Declared {
     }
 
     /// That field of a struct or an exception.
+    // An arm for each: of one field nothing but what is asked of it is read then.
     #[inline(always)]
     pub(crate) fn field(&self, index: usize) -> Option<FieldType>
         ensures { result ≡ option_and_then (λ fields. slice_get fields index) (shape_fields self.now.shape) }
@@ -314,6 +328,17 @@ impl Declared {
     {
         match &self.body {
             Body::Array(array) => Some(*array.elem()),
+            Body::Struct(_) | Body::Exn(_) | Body::Func(_) => None,
+        }
+    }
+
+    /// An array's element, lent.
+    #[inline(always)]
+    pub(crate) fn elem_type(&self) -> Option<&FieldType>
+        ensures { option_copied result ≡ shape_elem self.now.shape }
+    {
+        match &self.body {
+            Body::Array(array) => Some(array.elem()),
             Body::Struct(_) | Body::Exn(_) | Body::Func(_) => None,
         }
     }

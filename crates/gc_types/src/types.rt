@@ -310,13 +310,22 @@ impl Types {
         }
     }
 
+    /// The fields of the struct or exception type; None exactly where the index names none.
+    #[inline(always)]
+    pub fn fields(&self, ty: VMSharedTypeIndex) -> Option<&[FieldType]>
+        ensures { option_copied result ≡ fields_at self.now.declarations ty }
+    {
+        let declared = self.declared.get(ty.as_u32() as usize)?;
+        declared.fields()
+    }
+
     /// How many fields the struct or exception type has; None exactly where the index names none.
     #[inline(always)]
     pub fn fields_len(&self, ty: VMSharedTypeIndex) -> Option<usize>
         ensures { result ≡ option_map length (fields_at self.now.declarations ty) }
     {
-        let declared = self.declared.get(ty.as_u32() as usize)?;
-        declared.fields_len()
+        let fields = self.fields(ty)?;
+        Some(fields.len())
     }
 
     /// How many fields the struct type has; None exactly where the index names no struct type.
@@ -344,6 +353,15 @@ impl Types {
     {
         let declared = self.declared.get(ty.as_u32() as usize)?;
         declared.array_elem()
+    }
+
+    /// The type of the elements, lent; None exactly where the index names no array type.
+    #[inline(always)]
+    pub fn elem_type(&self, ty: VMSharedTypeIndex) -> Option<&FieldType>
+        ensures { option_copied result ≡ elem_at self.now.declarations ty }
+    {
+        let declared = self.declared.get(ty.as_u32() as usize)?;
+        declared.elem_type()
     }
 
     /// Where the fields of the struct or exception type lie in that heap; None exactly where the
