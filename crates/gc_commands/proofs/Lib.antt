@@ -12,6 +12,7 @@ pub mod FormLemmas
 pub mod ObjectLemmas
 pub mod ShapeLemmas
 pub mod LineLemmas
+pub mod LineReadLemmas
 pub mod UniqueLemmas
 pub mod SpelledLemmas
 pub mod EachLemmas

@@ -83,6 +83,11 @@ command_form command.GcInc = Some form.GcInc
 command_form (command.Grow n) = Some form.Grow
 command_form command.Cap = Some form.Cap
 
+-- the command that a reader of a form answers: none where that is `Bad`
+abbrev pub unless_bad : Command → Option Command
+unless_bad command.Bad = None
+unless_bad command = Some command
+
 -- the forms whose commands have a list
 abbrev pub has_list : Form → Bool
 has_list form.Struct = true
@@ -92,33 +97,3 @@ has_list form.NewExn = true
 has_list form.Fixed = true
 has_list form.Bytes = true
 has_list _ = false
-
--- the forms without a list whose commands have a number, a type or a value
-abbrev pub has_number : Form → Bool
-has_number form.Array = true
-has_number form.NewArr = true
-has_number form.Host = true
-has_number form.I31 = true
-has_number form.Field = true
-has_number form.Elem = true
-has_number form.SetField = true
-has_number form.SetElem = true
-has_number form.Grow = true
-has_number _ = false
-
--- the forms whose commands have registers, slots and globals alone
-abbrev pub has_registers : Form → Bool
-has_registers form.Len = true
-has_registers form.HostNumber = true
-has_registers form.Eq = true
-has_registers form.Push = true
-has_registers form.Store = true
-has_registers form.Load = true
-has_registers form.SetGlobal = true
-has_registers form.GetGlobal = true
-has_registers form.Own = true
-has_registers form.Root = true
-has_registers form.Unroot = true
-has_registers form.Throw = true
-has_registers form.Take = true
-has_registers _ = false

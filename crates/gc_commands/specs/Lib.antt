@@ -6,3 +6,4 @@ pub mod Reading
 pub mod Parts
 pub mod TypeWords
 pub mod Kept
+pub mod LoneCommands

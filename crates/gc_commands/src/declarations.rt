@@ -7,6 +7,7 @@ ghost use Rattle.std.specs.Option.{option_map};
 ghost use Rattle.gc_commands.specs.declared.form.Form.TheVariants as form;
 ghost use Rattle.gc_commands.specs.Parts.{ReadsFront, ReadsSupertype};
 ghost use Rattle.gc_commands.specs.Reading.{Reads, ReadsFirst};
+ghost use Rattle.gc_commands.specs.Forms.{unless_bad};
 ghost use Rattle.gc_commands.specs.Spelling.{FitsField, FitsValue, IsOfForm, operands_of};
 ghost use Rattle.gc_commands.specs.Words.{field_text, value_type_text};
 
@@ -18,46 +19,50 @@ use crate::words::Words;
 use std::alloc::{AllocError, Global};
 
 /// The words behind `struct`: `final`, a supertype, and any number of fields.
-pub(crate) fn read_struct(alloc: Global, words: &mut Words) -> Result<Option<Command>, AllocError>
-    ensures { IfOk result (λ command. Reads (IsOfForm form.Struct) operands_of words.old command) }
+pub(crate) fn read_struct(alloc: Global, words: &mut Words) -> Result<Command, AllocError>
+    ensures { IfOk result (λ command. Reads (IsOfForm form.Struct) operands_of words.old (unless_bad command)) }
 {
     let Some((is_final, supertype)) = read_front(words) else {
-        return Ok(None);
+        return Ok(Command::Bad);
     };
     let Some(fields) = read_fields(alloc, words)? else {
-        return Ok(None);
+        return Ok(Command::Bad);
     };
-    Ok(Some(Command::Struct {
+    Ok(Command::Struct {
         is_final,
         supertype,
         fields: FieldWords::from_vec(fields),
-    }))
-}
-
-/// The words behind `array`: `final`, a supertype, and a field.
-#[inline(always)]
-pub(crate) fn read_array(words: &mut Words) -> Option<Command>
-    ensures { Reads (IsOfForm form.Array) operands_of words.old result }
-{
-    let (is_final, supertype) = read_front(words)?;
-    let elem = read_last_field(words)?;
-    Some(Command::Array {
-        is_final,
-        supertype,
-        elem,
     })
 }
 
+/// The words behind `array`: `final`, a supertype, and a field.
+#[inline(never)]
+pub(crate) fn read_array(words: &mut Words) -> Command
+    ensures { Reads (IsOfForm form.Array) operands_of words.old (unless_bad result) }
+{
+    let Some((is_final, supertype)) = read_front(words) else {
+        return Command::Bad;
+    };
+    let Some(elem) = read_last_field(words) else {
+        return Command::Bad;
+    };
+    Command::Array {
+        is_final,
+        supertype,
+        elem,
+    }
+}
+
 /// The words behind `exn`: any number of types of values.
-pub(crate) fn read_exn(alloc: Global, words: &mut Words) -> Result<Option<Command>, AllocError>
-    ensures { IfOk result (λ command. Reads (IsOfForm form.Exn) operands_of words.old command) }
+pub(crate) fn read_exn(alloc: Global, words: &mut Words) -> Result<Command, AllocError>
+    ensures { IfOk result (λ command. Reads (IsOfForm form.Exn) operands_of words.old (unless_bad command)) }
 {
     let Some(params) = read_values(alloc, words)? else {
-        return Ok(None);
+        return Ok(Command::Bad);
     };
-    Ok(Some(Command::Exn {
+    Ok(Command::Exn {
         params: ValueWords::from_vec(params),
-    }))
+    })
 }
 
 /// The front of a declaration: whether it is final, and its supertype.

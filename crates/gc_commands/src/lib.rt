@@ -12,6 +12,7 @@ pub mod command;
 mod declarations;
 pub mod form;
 pub mod hex;
+pub mod lone;
 pub mod numbers;
 mod objects;
 mod operands;
@@ -30,6 +31,7 @@ pub use command::{
 };
 pub use form::Form;
 pub use hex::{push_bytes, push_hex};
+pub use lone::{Lone, lone_of};
 pub use numbers::number;
 pub use parse::{MAX_LINE, keep_operands, parse_line, parse_line_into, spelling_is_unique};
 pub use reply::{ByteText, Refusal, Reply, ReplyValue};

@@ -3,6 +3,7 @@
 ghost use Rattle.std.specs.Prelude.{IfOk};
 ghost use Rattle.gc_commands.specs.declared.form.Form.TheVariants as form;
 ghost use Rattle.gc_commands.specs.Reading.{Reads};
+ghost use Rattle.gc_commands.specs.Forms.{unless_bad};
 ghost use Rattle.gc_commands.specs.Spelling.{IsOfForm, operands_of};
 
 use crate::command::{Command, Operands};
@@ -20,20 +21,20 @@ pub(crate) fn read_new(
     alloc: Global,
     room: &mut Operands,
     words: &mut Words,
-) -> Result<Option<Command>, AllocError>
-    ensures { IfOk result (λ command. Reads (IsOfForm form.New) operands_of words.old command) }
+) -> Result<Command, AllocError>
+    ensures { IfOk result (λ command. Reads (IsOfForm form.New) operands_of words.old (unless_bad command)) }
 {
     let Some((d, t)) = read_target(words) else {
-        return Ok(None);
+        return Ok(Command::Bad);
     };
     let Some(values) = read_operands(alloc, room, words)? else {
-        return Ok(None);
+        return Ok(Command::Bad);
     };
-    Ok(Some(Command::New {
+    Ok(Command::New {
         d,
         t,
         values: Operands::from_vec(values),
-    }))
+    })
 }
 
 /// The words behind `newexn`: a register, a type, a tag and any number of operands.
@@ -41,36 +42,44 @@ pub(crate) fn read_new_exn(
     alloc: Global,
     room: &mut Operands,
     words: &mut Words,
-) -> Result<Option<Command>, AllocError>
-    ensures { IfOk result (λ command. Reads (IsOfForm form.NewExn) operands_of words.old command) }
+) -> Result<Command, AllocError>
+    ensures { IfOk result (λ command. Reads (IsOfForm form.NewExn) operands_of words.old (unless_bad command)) }
 {
     let Some((d, t)) = read_target(words) else {
-        return Ok(None);
+        return Ok(Command::Bad);
     };
     let Some(tag) = read_u32(words) else {
-        return Ok(None);
+        return Ok(Command::Bad);
     };
     let Some(values) = read_operands(alloc, room, words)? else {
-        return Ok(None);
+        return Ok(Command::Bad);
     };
-    Ok(Some(Command::NewExn {
+    Ok(Command::NewExn {
         d,
         t,
         tag,
         values: Operands::from_vec(values),
-    }))
+    })
 }
 
 /// The words behind `newarr`: a register, a type, a length and an operand.
-#[inline(always)]
-pub(crate) fn read_new_arr(words: &mut Words) -> Option<Command>
-    ensures { Reads (IsOfForm form.NewArr) operands_of words.old result }
+#[inline(never)]
+pub(crate) fn read_new_arr(words: &mut Words) -> Command
+    ensures { Reads (IsOfForm form.NewArr) operands_of words.old (unless_bad result) }
 {
-    let (d, t) = read_target(words)?;
-    let len = read_u32(words)?;
-    let value = read_operand(words)?;
-    read_end(words)?;
-    Some(Command::NewArr { d, t, len, value })
+    let Some((d, t)) = read_target(words) else {
+        return Command::Bad;
+    };
+    let Some(len) = read_u32(words) else {
+        return Command::Bad;
+    };
+    let Some(value) = read_operand(words) else {
+        return Command::Bad;
+    };
+    if read_end(words).is_none() {
+        return Command::Bad;
+    }
+    Command::NewArr { d, t, len, value }
 }
 
 /// The words behind `fixed`: a register, a type and any number of operands.
@@ -78,44 +87,44 @@ pub(crate) fn read_fixed(
     alloc: Global,
     room: &mut Operands,
     words: &mut Words,
-) -> Result<Option<Command>, AllocError>
-    ensures { IfOk result (λ command. Reads (IsOfForm form.Fixed) operands_of words.old command) }
+) -> Result<Command, AllocError>
+    ensures { IfOk result (λ command. Reads (IsOfForm form.Fixed) operands_of words.old (unless_bad command)) }
 {
     let Some((d, t)) = read_target(words) else {
-        return Ok(None);
+        return Ok(Command::Bad);
     };
     let Some(values) = read_operands(alloc, room, words)? else {
-        return Ok(None);
+        return Ok(Command::Bad);
     };
-    Ok(Some(Command::Fixed {
+    Ok(Command::Fixed {
         d,
         t,
         values: Operands::from_vec(values),
-    }))
+    })
 }
 
 /// The words behind `bytes`: two numbers, or a register, a type and bytes.
-pub(crate) fn read_bytes(alloc: Global, words: &mut Words) -> Result<Option<Command>, AllocError>
-    ensures { IfOk result (λ command. Reads (IsOfForm form.Bytes) operands_of words.old command) }
+pub(crate) fn read_bytes(alloc: Global, words: &mut Words) -> Result<Command, AllocError>
+    ensures { IfOk result (λ command. Reads (IsOfForm form.Bytes) operands_of words.old (unless_bad command)) }
 {
     if let Some((r, len)) = read_register_and_number(&mut words.ahead()) {
-        return Ok(Some(Command::ReadBytes { r, len }));
+        return Ok(Command::ReadBytes { r, len });
     }
     let Some((d, t)) = read_target(words) else {
-        return Ok(None);
+        return Ok(Command::Bad);
     };
     let Some(word) = words.next() else {
-        return Ok(None);
+        return Ok(Command::Bad);
     };
     let Some(bytes) = bytes_of(alloc, word)? else {
-        return Ok(None);
+        return Ok(Command::Bad);
     };
     match read_end(words) {
-        Some(()) => Ok(Some(Command::NewBytes {
+        Some(()) => Ok(Command::NewBytes {
             d,
             t,
             bytes: ByteText::from_vec(bytes),
-        })),
-        None => Ok(None),
+        }),
+        None => Ok(Command::Bad),
     }
 }

@@ -1,14 +1,14 @@
 //! Reads a line of a script.
 //!
 //! A line is cut into words, its first word says which form of command it is, and each form has a
-//! function that reads the words behind it.
+//! function that reads the words behind it, and answers `Bad` where they spell no command of the form.
 
-ghost use Rattle.std.specs.Prelude.{◌≡◌, ◌==◌, [], true, false, IfOk, MatchOption};
+ghost use Rattle.std.specs.Prelude.{◌≡◌, ◌==◌, [], false, IfOk, MatchOption};
 ghost use Rattle.std.specs.List.{slice_split};
 ghost use Rattle.std.specs.Option.{option_map_or};
 ghost use Rattle.std.specs.Str.{IsUtf8};
 ghost use Rattle.gc_commands.specs.declared.command.Command.{Command};
-ghost use Rattle.gc_commands.specs.Forms.{has_list, has_number, has_registers};
+ghost use Rattle.gc_commands.specs.Forms.{has_list, unless_bad};
 ghost use Rattle.gc_commands.specs.Kept.{operands_kept};
 ghost use Rattle.gc_commands.specs.Reading.{Reads};
 ghost use Rattle.gc_commands.specs.Spelling.{FitsCommand, IsCommandOf, IsOfForm, operands_of, spelling};
@@ -58,10 +58,7 @@ pub fn parse_line_into(
     let Some(mut words) = words_behind(behind) else {
         return Ok(Command::Bad);
     };
-    match read_form(alloc, room, form, &mut words)? {
-        Some(command) => Ok(command),
-        None => Ok(Command::Bad),
-    }
+    read_form(alloc, room, form, &mut words)
 }
 
 /// The words behind the first one of a line; None where they are no text.
@@ -76,7 +73,7 @@ fn words_behind(behind: Option<&[u8]>) -> Option<Words>
     }
 }
 
-/// The command of a form that the words behind its name spell. Only a list takes memory.
+/// The command of a form that the words behind its name spell, and `Bad` where they spell none. Only a list takes memory.
 // The hint is followed while all that it puts in place stays small: so of the forms with a list only `new` is read in place.
 #[inline(always)]
 fn read_form(
@@ -84,8 +81,8 @@ fn read_form(
     room: &mut Operands,
     form: Form,
     words: &mut Words,
-) -> Result<Option<Command>, AllocError>
-    ensures { IfOk result (λ command. Reads (IsOfForm form) operands_of words.old command) }
+) -> Result<Command, AllocError>
+    ensures { IfOk result (λ command. Reads (IsOfForm form) operands_of words.old (unless_bad command)) }
 {
     match form {
         Form::Struct => read_struct(alloc, words),
@@ -98,14 +95,13 @@ fn read_form(
     }
 }
 
-/// The command of a form without a list that the words behind its name spell.
+/// The command of a form without a list that the words behind its name spell, and `Bad` where they spell none.
 // Each arm is the answer as it is: an `Ok` around it would be one more room for a command in each arm, and all of
-// them are cleared whatever the form is. In place are the forms that stand alone; the readers of the others make it too
-// large for that.
+// them are cleared whatever the form is.
 #[inline(always)]
-fn read_listless(form: Form, words: &mut Words) -> Option<Command>
+fn read_listless(form: Form, words: &mut Words) -> Command
     requires { has_list form ≡ false }
-    ensures { Reads (IsOfForm form) operands_of words.old result }
+    ensures { Reads (IsOfForm form) operands_of words.old (unless_bad result) }
 {
     match form {
         Form::Enter => read_alone(words, Command::Enter),
@@ -115,25 +111,6 @@ fn read_listless(form: Form, words: &mut Words) -> Option<Command>
         Form::GcDrop => read_alone(words, Command::GcDrop),
         Form::GcInc => read_alone(words, Command::GcInc),
         Form::Cap => read_alone(words, Command::Cap),
-        Form::Array
-        | Form::NewArr
-        | Form::Host
-        | Form::I31
-        | Form::Field
-        | Form::Elem
-        | Form::SetField
-        | Form::SetElem
-        | Form::Grow => read_with_number(form, words),
-        _ => read_with_registers(form, words),
-    }
-}
-
-/// The command of a form with a number, a type or a value that the words behind its name spell.
-fn read_with_number(form: Form, words: &mut Words) -> Option<Command>
-    requires { has_number form ≡ true }
-    ensures { Reads (IsOfForm form) operands_of words.old result }
-{
-    match form {
         Form::Array => read_array(words),
         Form::NewArr => read_new_arr(words),
         Form::Host => read_host(words),
@@ -143,16 +120,6 @@ fn read_with_number(form: Form, words: &mut Words) -> Option<Command>
         Form::SetField => read_set_field(words),
         Form::SetElem => read_set_elem(words),
         Form::Grow => read_grow(words),
-        _ => unreachable!(),
-    }
-}
-
-/// The command of a form with registers, slots and globals alone that the words behind its name spell.
-fn read_with_registers(form: Form, words: &mut Words) -> Option<Command>
-    requires { has_registers form ≡ true }
-    ensures { Reads (IsOfForm form) operands_of words.old result }
-{
-    match form {
         Form::Len => read_len(words),
         Form::HostNumber => read_host_number(words),
         Form::Eq => read_eq(words),

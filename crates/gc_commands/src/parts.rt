@@ -3,6 +3,9 @@
 //!
 //! A reader takes words off the front and answers `None` exactly where they spell nothing that it
 //! reads.
+//!
+//! Those that read all the words of a form are calls: in place they would make the reader of all forms too large to be put
+//! in place itself.
 
 ghost use Rattle.std.specs.Prelude.{◌≡◌, ℕ, ◌<◌, ◌^◌, List, [], IfOk, IfSome, MatchOption, map};
 ghost use Rattle.std.specs.Fmt.{decimal};
@@ -86,7 +89,7 @@ pub fn read_end(words: &mut Words) -> Option<()>
 }
 
 /// One register, and no more words.
-#[inline(always)]
+#[inline(never)]
 pub(crate) fn read_last_register(words: &mut Words) -> Option<u16>
     ensures { Reads (λ r. r < 2 ^ 16) number_words words.old result }
 {
@@ -96,7 +99,7 @@ pub(crate) fn read_last_register(words: &mut Words) -> Option<u16>
 }
 
 /// A number of 64 bits, and no more words.
-#[inline(always)]
+#[inline(never)]
 pub(crate) fn read_last_u64(words: &mut Words) -> Option<u64>
     ensures { Reads (λ n. n < 2 ^ 64) number_words words.old result }
 {
@@ -106,7 +109,7 @@ pub(crate) fn read_last_u64(words: &mut Words) -> Option<u64>
 }
 
 /// Two registers, and no more words.
-#[inline(always)]
+#[inline(never)]
 pub(crate) fn read_registers(words: &mut Words) -> Option<(u16, u16)>
     ensures { Reads FitRegisters pair_words words.old result }
 {
@@ -117,7 +120,7 @@ pub(crate) fn read_registers(words: &mut Words) -> Option<(u16, u16)>
 }
 
 /// A register and a number of 32 bits, and no more words.
-#[inline(always)]
+#[inline(never)]
 pub(crate) fn read_register_and_number(words: &mut Words) -> Option<(u16, u32)>
     ensures { Reads FitRegisterAndNumber pair_words words.old result }
 {
@@ -128,7 +131,7 @@ pub(crate) fn read_register_and_number(words: &mut Words) -> Option<(u16, u32)>
 }
 
 /// A register and a number of 64 bits, and no more words.
-#[inline(always)]
+#[inline(never)]
 pub(crate) fn read_register_and_wide(words: &mut Words) -> Option<(u16, u64)>
     ensures { Reads FitRegisterAndWide pair_words words.old result }
 {
@@ -139,7 +142,7 @@ pub(crate) fn read_register_and_wide(words: &mut Words) -> Option<(u16, u64)>
 }
 
 /// A register and an index, and a register where one more word stands.
-#[inline(always)]
+#[inline(never)]
 pub(crate) fn read_place(words: &mut Words) -> Option<(u16, u32, Option<u16>)>
     ensures { Reads FitPlace place_words words.old result }
 {
@@ -150,7 +153,7 @@ pub(crate) fn read_place(words: &mut Words) -> Option<(u16, u32, Option<u16>)>
 }
 
 /// A register, an index and an operand, and no more words.
-#[inline(always)]
+#[inline(never)]
 pub(crate) fn read_write(words: &mut Words) -> Option<(u16, u32, Operand)>
     ensures { Reads FitWrite write_words words.old result }
 {

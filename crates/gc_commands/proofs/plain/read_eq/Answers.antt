@@ -4,5 +4,5 @@ use Rattle.gc_commands.specs.Parts.{FitRegisters, pair_words}
 use Rattle.gc_commands.proofs.FormLemmas.{none_of, only_eq}
 use Rattle.gc_commands.proofs.plain.read_eq.Goals as goal
 
-pub returns-in_err-r : goal.returns-in_err-r
-returns-in_err-r c = rw c.from_residual.ensures (none_of form.Eq FitRegisters pair_words (λ p. command.Eq p.0 p.1) only_eq c.args.words.now c.in_err-r.ensures)
+pub returns-in_default : goal.returns-in_default
+returns-in_default c = none_of form.Eq FitRegisters pair_words (λ p. command.Eq p.0 p.1) only_eq c.args.words.now c.in_default.ensures

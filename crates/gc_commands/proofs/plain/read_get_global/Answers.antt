@@ -4,5 +4,5 @@ use Rattle.gc_commands.specs.Parts.{FitRegisters, pair_words}
 use Rattle.gc_commands.proofs.FormLemmas.{none_of, only_get_global}
 use Rattle.gc_commands.proofs.plain.read_get_global.Goals as goal
 
-pub returns-in_err-g : goal.returns-in_err-g
-returns-in_err-g c = rw c.from_residual.ensures (none_of form.GetGlobal FitRegisters pair_words (λ p. command.GetGlobal p.0 p.1) only_get_global c.args.words.now c.in_err-g.ensures)
+pub returns-in_default : goal.returns-in_default
+returns-in_default c = none_of form.GetGlobal FitRegisters pair_words (λ p. command.GetGlobal p.0 p.1) only_get_global c.args.words.now c.in_default.ensures

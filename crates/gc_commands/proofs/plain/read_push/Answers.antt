@@ -4,5 +4,5 @@ use Rattle.gc_commands.specs.Parts.{number_words}
 use Rattle.gc_commands.proofs.FormLemmas.{FitRegister, none_of, only_push}
 use Rattle.gc_commands.proofs.plain.read_push.Goals as goal
 
-pub returns-in_err-slots : goal.returns-in_err-slots
-returns-in_err-slots c = rw c.from_residual.ensures (none_of form.Push FitRegister number_words command.Push only_push c.args.words.now c.in_err-slots.ensures)
+pub returns-in_default : goal.returns-in_default
+returns-in_default c = none_of form.Push FitRegister number_words command.Push only_push c.args.words.now c.in_default.ensures

@@ -4,5 +4,5 @@ use Rattle.gc_commands.specs.Parts.{number_words}
 use Rattle.gc_commands.proofs.FormLemmas.{FitRegister, none_of, only_take}
 use Rattle.gc_commands.proofs.plain.read_take.Goals as goal
 
-pub returns-in_err-d : goal.returns-in_err-d
-returns-in_err-d c = rw c.from_residual.ensures (none_of form.Take FitRegister number_words command.Take only_take c.args.words.now c.in_err-d.ensures)
+pub returns-in_default : goal.returns-in_default
+returns-in_default c = none_of form.Take FitRegister number_words command.Take only_take c.args.words.now c.in_default.ensures

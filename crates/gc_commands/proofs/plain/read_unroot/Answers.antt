@@ -4,5 +4,5 @@ use Rattle.gc_commands.specs.Parts.{number_words}
 use Rattle.gc_commands.proofs.FormLemmas.{FitRegister, none_of, only_unroot}
 use Rattle.gc_commands.proofs.plain.read_unroot.Goals as goal
 
-pub returns-in_err-o : goal.returns-in_err-o
-returns-in_err-o c = rw c.from_residual.ensures (none_of form.Unroot FitRegister number_words command.Unroot only_unroot c.args.words.now c.in_err-o.ensures)
+pub returns-in_default : goal.returns-in_default
+returns-in_default c = none_of form.Unroot FitRegister number_words command.Unroot only_unroot c.args.words.now c.in_default.ensures
