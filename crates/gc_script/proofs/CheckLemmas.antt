@@ -59,6 +59,25 @@ err_is (Err e) why told = ap Err told
 tests_here : (s : State) (types : ℕ → Option FieldType) (vs : List Operand) (i : ℕ) (v : Operand) → slice_get vs i ≡ Some v → typed_tests s types i (drop i vs) ≡ value_tests s (types i) v ++ typed_tests s types (suc i) (drop (suc i) vs)
 tests_here s types vs i v e = ap (typed_tests s types i) (drop_here vs i v e)
 
+-- none of the first values is a function or a continuation
+abbrev pub PlainSoFar : List RawValue → ℕ → Type 0
+PlainSoFar raws i = (j : ℕ) (r : RawValue) → j < i → slice_get raws j ≡ Some r → is_opaque r ≡ false
+
+-- nor is one more
+pub plain_more : (raws : List RawValue) (i : ℕ) (r : RawValue) → slice_get raws i ≡ Some r → is_opaque r ≡ false → PlainSoFar raws i → PlainSoFar raws (suc i)
+plain_more raws i r r_is is_plain plain j q lt e =
+    elim (cases_le_suc j i lt) [
+      | inl below ↦ plain j q below e
+      | inr here ↦
+          let q_is : Some r ≡ Some q = sym r_is ∙ ap (slice_get raws) (sym here) ∙ e in
+          let same : r ≡ q = grind (arith, q_is) in
+          ap is_opaque (sym same) ∙ is_plain
+    ]
+
+-- and so none of all is
+pub plain_all : (raws : List RawValue) (i : ℕ) → length raws ≤ i → PlainSoFar raws i → AllPlain raws
+plain_all raws i all plain j r e = let within = slice_get_within raws j r e in plain j r (omega (arith, within, all)) e
+
 module _ (layouts : Layouts) (store : StoreView ℕ) (types : ValueTypes) (raws : List RawValue) where
   -- the tests of the values, by the types of a state
   abbrev tests_at : State → ℕ → List Operand → List (Bool × Refusal)
@@ -67,7 +86,7 @@ module _ (layouts : Layouts) (store : StoreView ℕ) (types : ValueTypes) (raws 
   -- The first values are checked: they may be stored, and whatever refusal there is comes from those left.
   pub record CheckedSoFar (i : ℕ) : Type 0 where
     pub stores : (j : ℕ) (r : RawValue) → j < i → slice_get raws j ≡ Some r → CanStoreRaw layouts store (type_at store.types types j) r
-    pub plain : (j : ℕ) (r : RawValue) → j < i → slice_get raws j ≡ Some r → is_opaque r ≡ false
+    pub plain : PlainSoFar raws i
     pub passed : (s : State) (vs : List Operand) → HoldsTable layouts store s.table → AllHeld store s vs raws → first_failing (tests_at s 0 vs) ≡ first_failing (tests_at s i (drop i vs))
     pub stand : (s : State) (vs : List Operand) → HoldsTable layouts store s.table → AllHeld store s vs raws → (j : ℕ) (r : RawValue) (v : Operand) → j < i → slice_get raws j ≡ Some r → slice_get vs j ≡ Some v → RawStands store s.table r (given_value (given s v))
 
@@ -99,14 +118,7 @@ module _ (layouts : Layouts) (store : StoreView ℕ) (types : ValueTypes) (raws 
                 subst (λ (f : Option FieldType). CanStoreRaw layouts store f q) (field_is ∙ ap (type_at store.types types) (sym here))
                 (subst (CanStoreRaw layouts store field) same can)
           ];
-      plain = λ j q lt e.
-          elim (cases_le_suc j i lt) [
-            | inl below ↦ so_far.plain j q below e
-            | inr here ↦
-                let q_is : Some r ≡ Some q = sym r_is ∙ ap (slice_get raws) (sym here) ∙ e in
-                let same : r ≡ q = grind (arith, q_is) in
-                ap is_opaque (sym same) ∙ is_plain
-          ];
+      plain = plain_more raws i r r_is is_plain so_far.plain;
       passed = λ s vs holds all.
           let v = hold_operand store s vs raws i r all r_is in
           so_far.passed s vs holds all
@@ -141,7 +153,7 @@ module _ (layouts : Layouts) (store : StoreView ℕ) (types : ValueTypes) (raws 
 
     -- and none is a function or a continuation
     pub checked_plain : AllPlain raws
-    checked_plain j r e = let within = slice_get_within raws j r e in so_far.plain j r (omega (arith, within, all)) e
+    checked_plain = plain_all raws i all so_far.plain
 
     -- what the values stand for
     checked_stand : (s : State) (vs : List Operand) → HoldsTable layouts store s.table → AllHeld store s vs raws → AllStand store s.table raws (given_values s vs)

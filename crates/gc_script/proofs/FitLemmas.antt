@@ -2,17 +2,14 @@
 use Rattle.std.proofs.Common.{◌≡◌, ℕ, List, Bool, false, Option, Some, None, refl, sym, ap, arith}
 use Rattle.std.proofs.lemmas.Option.{none-some}
 use Rattle.gc_types.specs.declared.value.RefType.{RefType}
-use Rattle.gc_types.specs.declared.value.StorageType.{StorageType}
-use Rattle.gc_types.specs.declared.value.StorageType.TheVariants as storage
 use Rattle.gc_types.specs.declared.value.ValType.{ValType}
 use Rattle.gc_types.specs.declared.value.ValType.TheVariants as val
 use Rattle.gc_types.specs.Declarations.{Declaration}
 use Rattle.gc_types.specs.Subtyping.{supertypes_of}
-use Rattle.gc_types.specs.Values.{unpacked}
 use Rattle.gc_owner.specs.declared.entry.GcClass.{GcClass}
-use Rattle.gc_model.specs.Values.{Value, Object}
+use Rattle.gc_model.specs.Values.{Value}
 use Rattle.gc_model.specs.Table.{Table}
-use Rattle.gc_model.specs.Fits.{fits_type, fits}
+use Rattle.gc_model.specs.Fits.{fits_type}
 use Rattle.gc_model.specs.Stores.{StoreView}
 use Rattle.gc_values.specs.declared.root.RawValue.{RawValue}
 use Rattle.gc_values.specs.declared.root.RawValue.TheVariants as raw
@@ -41,12 +38,6 @@ module _ (s : StoreView ℕ) (t : Table ℕ) (ty : RefType) (class : GcClass) wh
       → found ≡ own_fits (supertypes_of types) (own_type class object) ty.heap_type → found ≡ fits_type t.types t.objects (val.Ref ty) v
   told_fits types None object v found same stands tells e = absurd (none-some object (sym tells))
   told_fits types (Some handle) object v found same stands tells e = root_fits t ty types class stands.root v object found same (tells stands.root stands.named) stands.is e
-
--- small integers are given as 32-bit numbers
-pub fits_unpacked : (types : List Declaration) (objects : List (Object ℕ)) (ty : StorageType) (v : Value) → fits_type types objects (unpacked ty) v ≡ fits types objects ty v
-fits_unpacked types objects storage.I8 v = refl
-fits_unpacked types objects storage.I16 v = refl
-fits_unpacked types objects (storage.ValType ty) v = refl
 
 -- a value that is neither a reference nor opaque is a number, which fits its own type
 module _ (s : StoreView ℕ) (t : Table ℕ) where

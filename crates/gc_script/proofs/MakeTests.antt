@@ -103,11 +103,6 @@ all_set store s (v ∷ vs) (r ∷ raws) all =
 pub held_count : (store : StoreView ℕ) (s : State) (vs : List Operand) (raws : List RawValue) → AllHeld store s vs raws → length raws ≡ length vs
 held_count store s vs raws all = AllZip-long (λ (v : Operand) (r : RawValue). RegisterStands store s.table (Some r) (held_operand s v)) vs raws all
 
--- what is declared, by a count of fields
-pub counted_fields : (o : Option (List FieldType)) (n : ℕ) → option_map length o ≡ Some n → (fields : List FieldType) × ((o ≡ Some fields) × (length fields ≡ n))
-counted_fields None n e = absurd (none-some n e)
-counted_fields (Some fields) n e = let is : length fields ≡ n = grind (arith, e) in (fields, (refl, is))
-
 module _ (layouts : Layouts) (s : State) (d t : ℕ) (vs : List Operand) where
   abbrev struct_rest : List (Bool × Refusal)
   struct_rest = heap_tests layouts s (given_struct s t vs)

@@ -1,6 +1,8 @@
 -- Requests for objects with fields that commands make.
 use Rattle.std.specs.Prelude.{◌≡◌, ◌<◌, ℕ, Bool, false, List, [], ◌++◌, Option, None, unwrap_or}
 use Rattle.gc_types.specs.declared.kind.Layouts.{Layouts}
+use Rattle.gc_types.specs.declared.kind.TypeKind.{TypeKind}
+use Rattle.gc_types.specs.declared.kind.TypeKind.TheVariants as kind
 use Rattle.gc_types.specs.declared.value.FieldType.{FieldType}
 use Rattle.gc_types.specs.Declarations.{Declaration, struct_fields_at}
 use Rattle.gc_owner.specs.declared.entry.GcClass.{GcClass}
@@ -30,10 +32,17 @@ type_of (place.Struct ty) = ty
 type_of (place.Exn ty tag) = ty
 type_of (place.Array ty n) = ty
 
+-- the fields of a type of that kind
+abbrev pub fields_of_kind : List Declaration → ℕ → TypeKind → Option (List FieldType)
+fields_of_kind types ty kind.Struct = struct_fields_at types ty
+fields_of_kind types ty kind.Array = None
+fields_of_kind types ty kind.Exn = exn_fields_at types ty
+fields_of_kind types ty kind.Func = None
+
 -- the fields of what is requested; an array has none
 abbrev pub requested_fields : List Declaration → Place → Option (List FieldType)
-requested_fields types (place.Struct ty) = struct_fields_at types ty
-requested_fields types (place.Exn ty tag) = exn_fields_at types ty
+requested_fields types (place.Struct ty) = fields_of_kind types ty kind.Struct
+requested_fields types (place.Exn ty tag) = fields_of_kind types ty kind.Exn
 requested_fields types (place.Array ty n) = None
 
 -- an object of that request with these values

@@ -10,9 +10,8 @@ ghost use Rattle.gc_store.specs.Stores.{IsSameStore};
 
 use crate::ending::Ending;
 use crate::make::place;
-use crate::objects::ValueTypes;
 use crate::runner::Runner;
-use crate::values::{any_unset, check_operands, check_value, give_values, operand_value};
+use crate::values::{any_unset, check_elements, check_value, give_values, operand_value};
 use gc_commands::{Operand, Refusal};
 use gc_heap::GcHeap;
 use gc_store::{Contents, Place, ResourceLimiter, Store};
@@ -38,7 +37,7 @@ impl Runner {
         ensures same { IsSameStore store.old store.new }
     {
         let ty = VMSharedTypeIndex::new(t);
-        let Some(element) = store.types().array_elem(ty) else {
+        let Some(element) = store.types().elem_type(ty) else {
             return Ending::Refused(Refusal::NoSuchName);
         };
         let Some(value) = operand_value(&self.registers, operand) else {
@@ -75,14 +74,13 @@ impl Runner {
         ensures same { IsSameStore store.old store.new }
     {
         let ty = VMSharedTypeIndex::new(t);
-        let Some(element) = store.types().array_elem(ty) else {
+        let Some(element) = store.types().elem_type(ty) else {
             return Ending::Refused(Refusal::NoSuchName);
         };
         if any_unset(&self.registers, operands) {
             return Ending::Refused(Refusal::NoSuchName);
         }
-        let types = ValueTypes::Elements(element);
-        if let Err(refusal) = check_operands(store, &self.registers, &types, operands) {
+        if let Err(refusal) = check_elements(store, &self.registers, element, operands) {
             return Ending::Refused(refusal);
         }
         // An array has fewer than 2^32 elements in every heap.
@@ -119,7 +117,7 @@ impl Runner {
         ensures same { IsSameStore store.old store.new }
     {
         let ty = VMSharedTypeIndex::new(t);
-        let Some(element) = store.types().array_elem(ty) else {
+        let Some(element) = store.types().elem_type(ty) else {
             return Ending::Refused(Refusal::NoSuchName);
         };
         if !element.element_type.is_i8() {

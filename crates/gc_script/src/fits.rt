@@ -35,8 +35,8 @@ fn reference_fits<H: GcHeap>(
 
 /// Whether a number is of that type.
 #[inline(always)]
-fn number_fits(ty: ValType, value: &RawValue) -> bool
-    ensures { result ≡ number_fits ty value.now }
+fn number_fits(ty: &ValType, value: &RawValue) -> bool
+    ensures { result ≡ number_fits ty.now value.now }
 {
     match ty {
         ValType::I32 => matches!(value, RawValue::I32(_)),
@@ -48,25 +48,41 @@ fn number_fits(ty: ValType, value: &RawValue) -> bool
     }
 }
 
+/// Whether a value that is no function or continuation fits a type, by the object that it names, where it names one.
+#[inline(always)]
+fn value_fits<H: GcHeap>(
+    store: &Store<H, u64>,
+    ty: &ValType,
+    value: &RawValue,
+    object: &Option<RootedObject>,
+) -> bool
+    ensures { (t : Table ℕ) (v : Value) → HoldsTable H.KIND store.now t → is_opaque value.now ≡ false → RawStands store.now t value.now v
+        → TellsHandle store.now t (raw_handle value.now) object.now → result ≡ fits_type t.types t.objects ty.now v }
+{
+    let (class, _) = match slot_of(value) {
+        Some(slot) => slot,
+        None => return number_fits(ty, value),
+    };
+    match ty {
+        ValType::Ref(ty) => reference_fits(store, ty, class, object),
+        _ => false,
+    }
+}
+
 /// Whether a value that is no function or continuation fits the type of a field or an element, by the object that it
 /// names, where it names one.
 #[inline(always)]
 pub(crate) fn fits<H: GcHeap>(
     store: &Store<H, u64>,
-    ty: StorageType,
+    ty: &StorageType,
     value: &RawValue,
     object: &Option<RootedObject>,
 ) -> bool
     ensures { (t : Table ℕ) (v : Value) → HoldsTable H.KIND store.now t → is_opaque value.now ≡ false → RawStands store.now t value.now v
-        → TellsHandle store.now t (raw_handle value.now) object.now → result ≡ fits t.types t.objects ty v }
+        → TellsHandle store.now t (raw_handle value.now) object.now → result ≡ fits t.types t.objects ty.now v }
 {
-    let ty = ty.unpack();
-    let (class, _) = match slot_of(value) {
-        Some(slot) => slot,
-        None => return number_fits(ty, value),
-    };
-    match &ty {
-        ValType::Ref(ty) => reference_fits(store, ty, class, object),
-        _ => false,
+    match ty {
+        StorageType::I8 | StorageType::I16 => value_fits(store, &ValType::I32, value, object),
+        StorageType::ValType(ty) => value_fits(store, ty, value, object),
     }
 }

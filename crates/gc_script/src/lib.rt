@@ -34,9 +34,9 @@ mod writes;
 pub use cutter::{LineCutter, pieces_give_lines};
 pub use ending::{Ending, is_quiet};
 pub use gc_commands::{
-    ByteText, Command, DONE_LINE, FieldWord, FieldWords, HeapWord, Operand, Operands, Refusal,
-    Reply, ReplyValue, StorageWord, ValueWord, fixed_line, keep_operands, parse_line,
-    parse_line_into, push_reply, refusal_line, reply_text,
+    ByteText, Command, DONE_LINE, FieldWord, FieldWords, HeapWord, Lone, Operand, Operands,
+    Refusal, Reply, ReplyValue, StorageWord, ValueWord, fixed_line, keep_operands, lone_of,
+    parse_line, parse_line_into, push_reply, refusal_line, reply_text,
 };
 pub use runner::{RunError, Runner};
 pub use script::run_script;

@@ -1,12 +1,10 @@
 //! The commands that make objects and small integers.
 
-ghost use Rattle.std.specs.Prelude.{◌≡◌, ℕ, length, OnErr};
-ghost use Rattle.std.specs.Option.{option_map};
+ghost use Rattle.std.specs.Prelude.{◌≡◌, ℕ, option_copied, OnErr};
 ghost use Rattle.gc_commands.specs.declared.command.Command.TheVariants as Command;
-ghost use Rattle.gc_model.specs.Sizes.{exn_fields_at};
 ghost use Rattle.gc_model.specs.Values.{Object};
 ghost use Rattle.gc_script.specs.Endings.{answer_of};
-ghost use Rattle.gc_script.specs.Requested.{class_of, type_of, requested, requested_fields, requested_tests, IsPlainRequest};
+ghost use Rattle.gc_script.specs.Requested.{class_of, fields_of_kind, requested, requested_fields, requested_tests, IsPlainRequest};
 ghost use Rattle.gc_script.specs.Slots.{RunnerRest, with_registers};
 ghost use Rattle.gc_script.specs.State.{State, HoldsState, visible};
 ghost use Rattle.gc_script.specs.Shapes.{making};
@@ -17,16 +15,15 @@ ghost use Rattle.gc_script.specs.Wants.{IsUnrefused, MayWant};
 ghost use Rattle.gc_store.specs.Stores.{IsSameStore};
 
 use crate::ending::Ending;
-use crate::objects::ValueTypes;
 use crate::registers::Registers;
 use crate::runner::Runner;
-use crate::values::{any_unset, check_operands, give_values};
+use crate::values::{any_unset, check_fields, give_values};
 use gc_commands::{Operand, Refusal};
 use gc_heap::GcHeap;
 use gc_refs::I31;
 use gc_store::laws::stores_hold_tables;
 use gc_store::{Contents, GcClass, Place, PlaceFault, RawValue, ResourceLimiter, RootFault, Store};
-use gc_types::{TypeKind, Types, VMSharedTypeIndex};
+use gc_types::{FieldType, TypeKind, Types, VMSharedTypeIndex};
 
 /// The class of references to what is requested.
 fn class_of(request: &Place) -> GcClass
@@ -39,34 +36,24 @@ fn class_of(request: &Place) -> GcClass
     }
 }
 
-/// The type of what is requested.
-fn type_of(request: &Place) -> VMSharedTypeIndex
-    ensures { result ≡ type_of request.now }
+/// The fields of a struct or an exception type, where it is of that kind, and else None.
+fn fields_of_kind(types: &Types, ty: VMSharedTypeIndex, kind: TypeKind) -> Option<&[FieldType]>
+    ensures { option_copied result ≡ fields_of_kind types.now.declarations ty kind }
 {
-    match *request {
-        Place::Struct(ty) => ty,
-        Place::Exn(ty, _) => ty,
-        Place::Array(ty, _) => ty,
+    if types.kind_of(ty) == Some(kind) {
+        types.fields(ty)
+    } else {
+        None
     }
 }
 
-/// How many fields the exception type has; None where the index names none.
-fn exn_len(types: &Types, ty: VMSharedTypeIndex) -> Option<usize>
-    ensures { result ≡ option_map length (exn_fields_at types.now.declarations ty) }
-{
-    match types.kind_of(ty) {
-        Some(TypeKind::Exn) => types.fields_len(ty),
-        _ => None,
-    }
-}
-
-/// How many fields what is requested has; None where there is no such type, or it is an array.
-fn fields_len(types: &Types, request: &Place) -> Option<usize>
-    ensures { result ≡ option_map length (requested_fields types.now.declarations request.now) }
+/// The fields of what is requested; None where there is no such type, or it is an array.
+fn requested_fields<'a>(types: &'a Types, request: &Place) -> Option<&'a [FieldType]>
+    ensures { option_copied result ≡ requested_fields types.now.declarations request.now }
 {
     match *request {
-        Place::Struct(ty) => types.struct_len(ty),
-        Place::Exn(ty, _) => exn_len(types, ty),
+        Place::Struct(ty) => fields_of_kind(types, ty, TypeKind::Struct),
+        Place::Exn(ty, _) => fields_of_kind(types, ty, TypeKind::Exn),
         Place::Array(..) => None,
     }
 }
@@ -126,17 +113,16 @@ impl Runner {
             → IsUnrefused (first_failing (requested_tests H.KIND s request operands.now))) }
         ensures same { IsSameStore store.old store.new }
     {
-        let Some(count) = fields_len(store.types(), &request) else {
+        let Some(fields) = requested_fields(store.types(), &request) else {
             return Ending::Refused(Refusal::NoSuchName);
         };
         if any_unset(&self.registers, operands) {
             return Ending::Refused(Refusal::NoSuchName);
         }
-        if operands.len() != count {
+        if operands.len() != fields.len() {
             return Ending::Refused(Refusal::FieldCount);
         }
-        let types = ValueTypes::Fields(type_of(&request));
-        if let Err(refusal) = check_operands(store, &self.registers, &types, operands) {
+        if let Err(refusal) = check_fields(store, &self.registers, fields, operands) {
             return Ending::Refused(refusal);
         }
         if give_values(&mut self.values, &self.registers, operands).is_err() {

@@ -1,6 +1,6 @@
 //! The objects that registers name.
 
-ghost use Rattle.std.specs.Prelude.{◌≡◌, ℕ, Some, IfOk, IfSome};
+ghost use Rattle.std.specs.Prelude.{◌≡◌, ℕ, Some, option_copied, IfOk, IfSome};
 ghost use Rattle.gc_model.specs.Holds.{HoldsTable};
 ghost use Rattle.gc_model.specs.Table.{Table};
 ghost use Rattle.gc_model.specs.Values.{Reference};
@@ -147,15 +147,18 @@ pub(crate) fn find_object<H: GcHeap>(
 
 /// The type of the value at that index, where there is one; of elements whatever the index is.
 #[inline(always)]
-pub(crate) fn type_at<H: GcHeap>(
-    store: &Store<H, u64>,
-    types: &ValueTypes,
+pub(crate) fn type_at<'a, H: GcHeap>(
+    store: &'a Store<H, u64>,
+    types: &'a ValueTypes,
     index: usize,
-) -> Option<FieldType>
-    ensures { result ≡ type_at store.now.types types.now index }
+) -> Option<&'a FieldType>
+    ensures { option_copied result ≡ type_at store.now.types types.now index }
 {
     match types {
-        ValueTypes::Fields(ty) => store.types().field(*ty, index),
-        ValueTypes::Elements(element) => Some(*element),
+        ValueTypes::Fields(ty) => {
+            let fields = store.types().fields(*ty)?;
+            fields.get(index)
+        }
+        ValueTypes::Elements(element) => Some(element),
     }
 }

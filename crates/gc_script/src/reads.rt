@@ -1,6 +1,6 @@
 //! The commands that read values of objects, and what becomes of a value that was read.
 
-ghost use Rattle.std.specs.Prelude.{◌≡◌, ℕ, Some, Ok, OnOk, OnErr};
+ghost use Rattle.std.specs.Prelude.{◌≡◌, ℕ, Some, Ok, option_copied, OnOk, OnErr};
 ghost use Rattle.gc_commands.specs.declared.command.Command.TheVariants as Command;
 ghost use Rattle.gc_script.specs.State.{State, HoldsState};
 ghost use Rattle.gc_script.specs.Given.{holds_bytes};
@@ -70,8 +70,8 @@ pub(crate) fn put_read<H: GcHeap>(
 }
 
 /// Whether elements of that type are 8 bits wide.
-fn holds_bytes(element: &Option<FieldType>) -> bool
-    ensures { result ≡ holds_bytes element.now }
+fn holds_bytes(element: Option<&FieldType>) -> bool
+    ensures { result ≡ holds_bytes (option_copied element.entry) }
 {
     match element {
         Some(element) => element.element_type.is_i8(),
@@ -150,7 +150,7 @@ impl Runner {
             Ok(object) => object,
             Err(why) => return Ok(Reply::Refused(why)),
         };
-        if !holds_bytes(&type_at(store, &object.types, 0)) {
+        if !holds_bytes(type_at(store, &object.types, 0)) {
             return Ok(Reply::Refused(Refusal::NotI8Array));
         }
         if object.count != len {

@@ -3,6 +3,7 @@
 ghost use Rattle.std.specs.Prelude.{◌≡◌, false, true, Ok, OnOk, OnErr};
 ghost use Rattle.gc_model.specs.Holds.{HoldsKept};
 ghost use Rattle.gc_model.specs.Allocation.{Limits};
+ghost use Rattle.gc_commands.specs.LoneCommands.{lone_command};
 ghost use Rattle.gc_script.specs.Built.{is_built};
 ghost use Rattle.gc_script.specs.Endings.{answer_of, ended, is_quiet};
 ghost use Rattle.gc_script.specs.Slots.{new_runner};
@@ -16,7 +17,7 @@ use crate::built::is_built;
 use crate::ending::{Ending, is_quiet};
 use crate::objects::Wanted;
 use crate::registers::Registers;
-use gc_commands::{Command, Refusal, Reply};
+use gc_commands::{Command, Lone, Refusal, Reply};
 use gc_heap::GcHeap;
 use gc_store::{RawValue, ResourceLimiter, Store};
 use std::alloc::Global;
@@ -182,6 +183,23 @@ impl Runner {
             Command::Unroot { o } => self.unroot(store, *o),
             Command::Throw { r } => self.throw(store, *r),
             _ => unreachable!(),
+        }
+    }
+
+    /// Runs a command of one word that tells nothing, as `run_one` does, and answers how it ended. No limiter is asked, and
+    /// `enter` alone takes memory.
+    #[inline(always)]
+    pub fn run_lone<H: GcHeap>(&mut self, store: &mut Store<H, u64>, lone: Lone) -> Ending
+        ensures runs { (limits : Limits) (s : State) → HoldsState H.KIND store.old self.old s
+            → RunsOne H.KIND store.old.alloc_counter limits limits s (lone_command lone) (answer_of result) store.new self.new }
+        ensures memory { OnErr (answer_of result) (TakesMemory (lone_command lone)) }
+        ensures cause { OnErr (answer_of result) ((s : State) → HoldsState H.KIND store.old self.old s → MayWant H.KIND s (lone_command lone)) }
+        ensures same { IsSameStore store.old store.new }
+    {
+        match lone {
+            Lone::Enter => self.enter(store),
+            Lone::Leave => Ending::of(self.leave(store)),
+            Lone::Pop => Ending::of(self.pop_frame(store)),
         }
     }
 

@@ -1,13 +1,14 @@
 //! The values that commands give, by operands and registers.
 
-ghost use Rattle.std.specs.Prelude.{◌≡◌, ℕ, false, List, Option, None, Some, is_ok, IsTrue, OnOk, IfOk};
+ghost use Rattle.std.specs.Prelude.{◌≡◌, ℕ, false, List, Option, None, Some, option_copied, slice_get, is_ok, IsTrue, OnOk, IfOk};
 ghost use Rattle.gc_model.specs.Holds.{HoldsTable};
 ghost use Rattle.gc_model.specs.Table.{Table};
 ghost use Rattle.gc_commands.specs.declared.command.Operand.{Operand};
 ghost use Rattle.gc_commands.specs.declared.command.Operand.TheVariants as operand;
 ghost use Rattle.gc_store.specs.Values.{NamesLive};
 ghost use Rattle.gc_values.specs.RawValues.{raw_handle};
-ghost use Rattle.gc_script.specs.Named.{type_at};
+ghost use Rattle.gc_types.specs.Declarations.{fields_at};
+ghost use Rattle.gc_script.specs.declared.objects.ValueTypes.TheVariants as types_of;
 ghost use Rattle.gc_script.specs.State.{State, Held, RegisterStands};
 ghost use Rattle.gc_script.specs.Given.{held_operand, given_held};
 ghost use Rattle.gc_script.specs.Values.{HoldsOperand, raw_operand, set_operand, set_operands, HasUnset, AreSet, AllHeld};
@@ -15,7 +16,6 @@ ghost use Rattle.gc_script.specs.Values.{raw_slot, TellsHandle, is_opaque, AllPl
 ghost use Rattle.gc_script.specs.Values.{ChecksOperand, ChecksOperands};
 
 use crate::fits::fits;
-use crate::objects::{ValueTypes, type_at};
 use crate::registers::Registers;
 use gc_commands::{Operand, Refusal};
 use gc_heap::GcHeap;
@@ -160,13 +160,13 @@ pub(crate) fn is_live<H: GcHeap>(store: &Store<H, u64>, value: &RawValue) -> boo
 #[inline(always)]
 pub(crate) fn check_value<H: GcHeap>(
     store: &Store<H, u64>,
-    field: Option<FieldType>,
+    field: Option<&FieldType>,
     value: &RawValue,
 ) -> Result<(), Refusal>
-    ensures stores { OnOk result (CanStoreRaw H.KIND store.now field value.now) }
+    ensures stores { OnOk result (CanStoreRaw H.KIND store.now (option_copied field.entry) value.now) }
     ensures plain { OnOk result (is_opaque value.now ≡ false) }
     ensures checks { (s : State) (v : Operand) → HoldsTable H.KIND store.now s.table → RegisterStands store.now s.table (Some value.now) (held_operand s v)
-        → ChecksOperand store.now s field v value.now result }
+        → ChecksOperand store.now s (option_copied field.entry) v value.now result }
 {
     let Ok(object) = named_by(store, value) else {
         return Err(Refusal::Unrooted);
@@ -175,7 +175,7 @@ pub(crate) fn check_value<H: GcHeap>(
         Some(field) => field,
         None => return Err(Refusal::TypeMismatch),
     };
-    if fits(store, field.element_type, value, &object) {
+    if fits(store, &field.element_type, value, &object) {
         Ok(())
     } else {
         Err(Refusal::TypeMismatch)
@@ -186,20 +186,20 @@ pub(crate) fn check_value<H: GcHeap>(
 #[inline(always)]
 fn check_plain<H: GcHeap>(
     store: &Store<H, u64>,
-    field: Option<FieldType>,
+    field: Option<&FieldType>,
     value: &RawValue,
 ) -> Result<(), Refusal>
     requires unnamed { raw_handle value.now ≡ None }
     requires plain { is_opaque value.now ≡ false }
-    ensures stores { OnOk result (CanStoreRaw H.KIND store.now field value.now) }
+    ensures stores { OnOk result (CanStoreRaw H.KIND store.now (option_copied field.entry) value.now) }
     ensures checks { (s : State) (v : Operand) → HoldsTable H.KIND store.now s.table → RegisterStands store.now s.table (Some value.now) (held_operand s v)
-        → ChecksOperand store.now s field v value.now result }
+        → ChecksOperand store.now s (option_copied field.entry) v value.now result }
 {
     let field = match field {
         Some(field) => field,
         None => return Err(Refusal::TypeMismatch),
     };
-    if fits(store, field.element_type, value, &None) {
+    if fits(store, &field.element_type, value, &None) {
         Ok(())
     } else {
         Err(Refusal::TypeMismatch)
@@ -212,14 +212,14 @@ fn check_plain<H: GcHeap>(
 fn check_register<H: GcHeap>(
     store: &Store<H, u64>,
     registers: &Registers,
-    field: Option<FieldType>,
+    field: Option<&FieldType>,
     register: u16,
 ) -> Result<(), Refusal>
-    ensures stores { OnOk result (CanStoreRaw H.KIND store.now field (set_operand registers.now (operand.Register register))) }
+    ensures stores { OnOk result (CanStoreRaw H.KIND store.now (option_copied field.entry) (set_operand registers.now (operand.Register register))) }
     ensures plain { OnOk result (is_opaque (set_operand registers.now (operand.Register register)) ≡ false) }
     ensures checks { (s : State) (v : Operand) → HoldsTable H.KIND store.now s.table
         → RegisterStands store.now s.table (Some (set_operand registers.now (operand.Register register))) (held_operand s v)
-        → ChecksOperand store.now s field v (set_operand registers.now (operand.Register register)) result }
+        → ChecksOperand store.now s (option_copied field.entry) v (set_operand registers.now (operand.Register register)) result }
 {
     match registers.held(register) {
         Some(value) => check_value(store, field, value),
@@ -232,14 +232,14 @@ fn check_register<H: GcHeap>(
 fn check_operand<H: GcHeap>(
     store: &Store<H, u64>,
     registers: &Registers,
-    field: Option<FieldType>,
+    field: Option<&FieldType>,
     operand: &Operand,
 ) -> Result<(), Refusal>
-    ensures stores { OnOk result (CanStoreRaw H.KIND store.now field (set_operand registers.now operand.now)) }
+    ensures stores { OnOk result (CanStoreRaw H.KIND store.now (option_copied field.entry) (set_operand registers.now operand.now)) }
     ensures plain { OnOk result (is_opaque (set_operand registers.now operand.now) ≡ false) }
     ensures checks { (s : State) (v : Operand) → HoldsTable H.KIND store.now s.table
         → RegisterStands store.now s.table (Some (set_operand registers.now operand.now)) (held_operand s v)
-        → ChecksOperand store.now s field v (set_operand registers.now operand.now) result }
+        → ChecksOperand store.now s (option_copied field.entry) v (set_operand registers.now operand.now) result }
 {
     match *operand {
         Operand::I32(number) => check_plain(store, field, &RawValue::I32(number)),
@@ -254,62 +254,52 @@ fn check_operand<H: GcHeap>(
     }
 }
 
-/// As `check_operand`, where it is not to be put in place.
-#[inline(never)]
-fn check_apart<H: GcHeap>(
-    store: &Store<H, u64>,
-    registers: &Registers,
-    field: Option<FieldType>,
-    operand: &Operand,
-) -> Result<(), Refusal>
-    ensures stores { OnOk result (CanStoreRaw H.KIND store.now field (set_operand registers.now operand.now)) }
-    ensures plain { OnOk result (is_opaque (set_operand registers.now operand.now) ≡ false) }
-    ensures checks { (s : State) (v : Operand) → HoldsTable H.KIND store.now s.table
-        → RegisterStands store.now s.table (Some (set_operand registers.now operand.now)) (held_operand s v)
-        → ChecksOperand store.now s field v (set_operand registers.now operand.now) result }
+/// The field of that index, where there is one.
+#[inline(always)]
+fn field_at(fields: &[FieldType], index: usize) -> Option<&FieldType>
+    ensures { option_copied result ≡ slice_get fields.now index }
 {
-    check_operand(store, registers, field, operand)
+    fields.get(index)
 }
 
-/// Whether what an operand holds may go into the field or the element of that index, as `check_value` says.
-// Where there is a type, which is so of each index that a command comes to, the test knows that there is one.
+/// Whether the values of operands, none of which is a register that is unset, may go into the fields of a type, in order; the
+/// first that may not says why. An operand behind the last field is a `TypeMismatch`.
 #[inline(always)]
-fn check_at<H: GcHeap>(
+pub(crate) fn check_fields<H: GcHeap>(
     store: &Store<H, u64>,
     registers: &Registers,
-    types: &ValueTypes,
-    index: usize,
-    operand: &Operand,
-) -> Result<(), Refusal>
-    ensures stores { OnOk result (CanStoreRaw H.KIND store.now (type_at store.now.types types.now index) (set_operand registers.now operand.now)) }
-    ensures plain { OnOk result (is_opaque (set_operand registers.now operand.now) ≡ false) }
-    ensures checks { (s : State) (v : Operand) → HoldsTable H.KIND store.now s.table
-        → RegisterStands store.now s.table (Some (set_operand registers.now operand.now)) (held_operand s v)
-        → ChecksOperand store.now s (type_at store.now.types types.now index) v (set_operand registers.now operand.now) result }
-{
-    let field = type_at(store, types, index);
-    match field {
-        Some(_) => check_operand(store, registers, field, operand),
-        None => check_apart(store, registers, field, operand),
-    }
-}
-
-/// Whether the values of operands, none of which is a register that is unset, may go into fields or elements of these
-/// types; the first that may not says why.
-#[inline(always)]
-pub(crate) fn check_operands<H: GcHeap>(
-    store: &Store<H, u64>,
-    registers: &Registers,
-    types: &ValueTypes,
+    fields: &[FieldType],
     operands: &[Operand],
 ) -> Result<(), Refusal>
-    ensures stores { OnOk result (AllRawStorable H.KIND store.now types.now (set_operands registers.now operands.now)) }
+    ensures stores { (ty : ℕ) → fields_at store.now.types ty ≡ Some fields.now
+        → OnOk result (AllRawStorable H.KIND store.now (types_of.Fields ty) (set_operands registers.now operands.now)) }
     ensures plain { OnOk result (AllPlain (set_operands registers.now operands.now)) }
-    ensures checks { (s : State) (vs : List Operand) → HoldsTable H.KIND store.now s.table → AllHeld store.now s vs (set_operands registers.now operands.now)
-        → ChecksOperands store.now s types.now vs (set_operands registers.now operands.now) result }
+    ensures checks { (ty : ℕ) → fields_at store.now.types ty ≡ Some fields.now → (s : State) (vs : List Operand) → HoldsTable H.KIND store.now s.table
+        → AllHeld store.now s vs (set_operands registers.now operands.now)
+        → ChecksOperands store.now s (types_of.Fields ty) vs (set_operands registers.now operands.now) result }
 {
     for (index, operand) in operands.iter().enumerate() {
-        check_at(store, registers, types, index, operand)?;
+        check_operand(store, registers, field_at(fields, index), operand)?;
+    }
+    Ok(())
+}
+
+/// Whether the values of operands, none of which is a register that is unset, may go into elements of that type; the first
+/// that may not says why.
+#[inline(always)]
+pub(crate) fn check_elements<H: GcHeap>(
+    store: &Store<H, u64>,
+    registers: &Registers,
+    element: &FieldType,
+    operands: &[Operand],
+) -> Result<(), Refusal>
+    ensures stores { OnOk result (AllRawStorable H.KIND store.now (types_of.Elements element.now) (set_operands registers.now operands.now)) }
+    ensures plain { OnOk result (AllPlain (set_operands registers.now operands.now)) }
+    ensures checks { (s : State) (vs : List Operand) → HoldsTable H.KIND store.now s.table → AllHeld store.now s vs (set_operands registers.now operands.now)
+        → ChecksOperands store.now s (types_of.Elements element.now) vs (set_operands registers.now operands.now) result }
+{
+    for operand in operands {
+        check_operand(store, registers, Some(element), operand)?;
     }
     Ok(())
 }

@@ -1,6 +1,6 @@
 //! The commands that write values of objects.
 
-ghost use Rattle.std.specs.Prelude.{◌≡◌, ℕ, false, Ok, OnOk, IfOk};
+ghost use Rattle.std.specs.Prelude.{◌≡◌, ℕ, false, Ok, option_copied, OnOk, IfOk};
 ghost use Rattle.gc_commands.specs.declared.command.Command.TheVariants as Command;
 ghost use Rattle.gc_commands.specs.declared.command.Operand.{Operand};
 ghost use Rattle.gc_model.specs.Holds.{HoldsTable};
@@ -33,8 +33,8 @@ pub(crate) struct Written {
 
 /// Whether a value of that type may not be written once its object is made.
 #[inline(always)]
-fn is_constant(field: &Option<FieldType>) -> bool
-    ensures { result ≡ is_constant field.now }
+fn is_constant(field: Option<&FieldType>) -> bool
+    ensures { result ≡ is_constant (option_copied field.entry) }
 {
     match field {
         Some(field) => !field.mutability.is_var(),
@@ -57,7 +57,7 @@ fn check_write<H: GcHeap>(
         → ChecksWrite store.now s (type_at s.table.types written.now.object.types index) v written.now.value result }
 {
     let field = type_at(store, &written.object.types, index as usize);
-    if is_constant(&field) {
+    if is_constant(field) {
         return Err(Refusal::Immutable);
     }
     check_value(store, field, &written.value)

@@ -1,11 +1,11 @@
 use Rattle.std.proofs.Common.{◌≡◌, ◌≢◌, ℕ, List, length, Option, Some, false, refl, sym, ap, ◌∙◌, subst}
 use Rattle.std.specs.Prelude.{unwrap_or, []}
 use Rattle.std.specs.List.{slice_get}
-use Rattle.std.specs.Option.{option_map}
+use Rattle.std.specs.Option.{option_copied}
 use Rattle.std.proofs.lemmas.List.{length-map}
 use Rattle.std.proofs.lemmas.Option.{none-some}
 use Rattle.gc_types.specs.declared.value.FieldType.{FieldType}
-use Rattle.gc_types.specs.Declarations.{Declaration, TypeTable}
+use Rattle.gc_types.specs.Declarations.{Declaration, TypeTable, fields_at}
 use Rattle.gc_values.specs.declared.request.Place.{Place}
 use Rattle.gc_values.specs.declared.request.Place.TheVariants as place
 use Rattle.gc_values.specs.declared.request.Contents.TheVariants as contents
@@ -26,67 +26,66 @@ use Rattle.gc_script.specs.Values.{AreRegisters, set_operand, set_operands, AllH
 use Rattle.gc_script.proofs.CountLemmas.{mild_found, append_mild}
 use Rattle.gc_script.proofs.FieldRequests.{requested_types, fields_request, fields_unset, fields_count, fields_value, fields_heap, typed_by, refused_on, runs_on}
 use Rattle.gc_script.proofs.GoesLemmas.{wants_nothing, values_mild}
-use Rattle.gc_script.proofs.MakeTests.{counted_fields}
 use Rattle.gc_script.proofs.OperandLemmas.{are_held}
 use Rattle.gc_script.proofs.ResultLemmas.{on_any_err, succeeded}
 use Rattle.gc_script.proofs.StandLemmas.{holds_table}
 use Rattle.gc_script.proofs.WantLemmas.{room_only, unrefused_by}
 use Rattle.gc_script.proofs.runner.Runner.make_fields.Given as given
 use Rattle.gc_script.proofs.runner.Runner.make_fields.Goals as goal
-use Rattle.gc_script.proofs.runner.Runner.make_fields.Goals.{After-any_unset, After-check_operands, After-give_values, After-as_slice}
+use Rattle.gc_script.proofs.runner.Runner.make_fields.Goals.{After-any_unset, After-check_fields, After-give_values, After-as_slice}
 
 -- the fields of what is requested
-known : (g : given.Over) (c : After-any_unset g) → (fields : List FieldType) × ((requested_fields c.args.store.now.types c.args.request ≡ Some fields) × (length fields ≡ c.in-Some.count))
-known g c =
-    counted_fields (requested_fields c.args.store.now.types c.args.request) c.in-Some.count
-    (sym (c.fields_len.ensures ∙ ap (λ (t : TypeTable). option_map length (requested_fields t.declarations c.args.request)) c.types.ensures) ∙ c.in-Some.is)
+known : (g : given.Over) (c : After-any_unset g) → requested_fields c.args.store.now.types c.args.request ≡ Some c.in-Some.fields.now
+known g c = sym (c.requested_fields.ensures ∙ ap (λ (t : TypeTable). requested_fields t.declarations c.args.request) c.types.ensures) ∙ ap option_copied c.in-Some.is
 
-known_in : (g : given.Over) (c : After-any_unset g) (s : State) → HoldsState g.H.GcHeap.KIND c.args.store.now c.args.self.now s → requested_fields s.table.types c.args.request ≡ Some (known g c).0
-known_in g c s holds = ap (λ (ts : List Declaration). requested_fields ts c.args.request) (sym holds.table.holds.types) ∙ (known g c).1.0
+known_in : (g : given.Over) (c : After-any_unset g) (s : State) → HoldsState g.H.GcHeap.KIND c.args.store.now c.args.self.now s → requested_fields s.table.types c.args.request ≡ Some c.in-Some.fields.now
+known_in g c s holds = ap (λ (ts : List Declaration). requested_fields ts c.args.request) (sym holds.table.holds.types) ∙ known g c
 
 registers_are : (g : given.Over) (c : After-any_unset g) (s : State) → HoldsState g.H.GcHeap.KIND c.args.store.now c.args.self.now s → AreRegisters c.args.store.now c.self.inside.registers s
 registers_are g c s holds d =
     subst (λ (o : Option RawValue). RegisterStands c.args.store.now s.table o (s.registers d)) (sym (ap (λ (r : RunnerView). register_at r.registers d) c.self.view_is)) (holds.registers d)
 
 -- no operand is unset
-set : (g : given.Over) (c : After-check_operands g) (s : State) → HoldsState g.H.GcHeap.KIND c.args.store.now c.args.self.now s → any_unset s c.args.operands.now ≡ false
-set g c s holds = c.any_unset.ensures.set c.if-any_unset.false c.args.store.now s (registers_are g (goal.at.After-check_operands g c).After-any_unset s holds)
+set : (g : given.Over) (c : After-check_fields g) (s : State) → HoldsState g.H.GcHeap.KIND c.args.store.now c.args.self.now s → any_unset s c.args.operands.now ≡ false
+set g c s holds = c.any_unset.ensures.set c.if-any_unset.false c.args.store.now s (registers_are g (goal.at.After-check_fields g c).After-any_unset s holds)
 
 -- the values are what the operands hold
-held : (g : given.Over) (c : After-check_operands g) (s : State) → HoldsState g.H.GcHeap.KIND c.args.store.now c.args.self.now s → AllHeld c.args.store.now s c.args.operands.now (set_operands c.self.inside.registers c.args.operands.now)
-held g c s holds = are_held c.self.inside.registers c.args.operands.now c.args.store.now s (registers_are g (goal.at.After-check_operands g c).After-any_unset s holds) (set g c s holds)
+held : (g : given.Over) (c : After-check_fields g) (s : State) → HoldsState g.H.GcHeap.KIND c.args.store.now c.args.self.now s → AllHeld c.args.store.now s c.args.operands.now (set_operands c.self.inside.registers c.args.operands.now)
+held g c s holds = are_held c.self.inside.registers c.args.operands.now c.args.store.now s (registers_are g (goal.at.After-check_fields g c).After-any_unset s holds) (set g c s holds)
 
 pub returns-then-any_unset-clause-runs : goal.returns-then-any_unset-clause-runs
 returns-then-any_unset-clause-runs g c s holds =
     let at = (goal.at.returns-then-any_unset-clause-runs g c).After-any_unset in
     refused_on g.H.GcHeap.KIND c.args.store.now.alloc_counter (g.L.ResourceLimiter.limits c.args.limiter.now) s _ (requested_tests g.H.GcHeap.KIND s c.args.request c.args.operands.now) refusal.NoSuchName c.args.store.now c.args.self.now holds refl
-    (fields_unset s (requested_fields s.table.types c.args.request) c.args.operands.now _ (known g at).0 (known_in g at s holds) (c.any_unset.ensures.unset c.if-any_unset.true c.args.store.now s (registers_are g at s holds)))
+    (fields_unset s (requested_fields s.table.types c.args.request) c.args.operands.now _ at.in-Some.fields.now (known_in g at s holds) (c.any_unset.ensures.unset c.if-any_unset.true c.args.store.now s (registers_are g at s holds)))
 
-pub returns-then-operands-count-clause-runs : goal.returns-then-operands-count-clause-runs
-returns-then-operands-count-clause-runs g c s holds =
-    let at = (goal.at.returns-then-operands-count-clause-runs g c).After-any_unset in
-    let differ : length c.args.operands.now ≢ length (known g at).0 = λ e. c.if-operands-count.true (e ∙ (known g at).1.1) in
+pub returns-then-operands-fields-clause-runs : goal.returns-then-operands-fields-clause-runs
+returns-then-operands-fields-clause-runs g c s holds =
+    let at = (goal.at.returns-then-operands-fields-clause-runs g c).After-any_unset in
     refused_on g.H.GcHeap.KIND c.args.store.now.alloc_counter (g.L.ResourceLimiter.limits c.args.limiter.now) s _ (requested_tests g.H.GcHeap.KIND s c.args.request c.args.operands.now) refusal.FieldCount c.args.store.now c.args.self.now holds refl
-    (fields_count s (requested_fields s.table.types c.args.request) c.args.operands.now _ (known g at).0 (known_in g at s holds) (c.any_unset.ensures.set c.if-any_unset.false c.args.store.now s (registers_are g at s holds)) differ)
+    (fields_count s (requested_fields s.table.types c.args.request) c.args.operands.now _ at.in-Some.fields.now (known_in g at s holds) (c.any_unset.ensures.set c.if-any_unset.false c.args.store.now s (registers_are g at s holds)) c.if-operands-fields.true)
 
 -- as many operands as fields
-many : (g : given.Over) (c : After-check_operands g) → length c.args.operands.now ≡ length (known g (goal.at.After-check_operands g c).After-any_unset).0
-many g c = c.if-operands-count.false ∙ sym (known g (goal.at.After-check_operands g c).After-any_unset).1.1
+many : (g : given.Over) (c : After-check_fields g) → length c.args.operands.now ≡ length c.in-Some.fields.now
+many g c = c.if-operands-fields.false
+
+-- which are those of its type
+of_type : (g : given.Over) (c : After-check_fields g) → fields_at c.args.store.now.types (type_of c.args.request) ≡ Some c.in-Some.fields.now
+of_type g c = requested_types c.args.store.now.types c.args.request c.in-Some.fields.now (known g (goal.at.After-check_fields g c).After-any_unset)
 
 -- the tests of the values by their fields
-typed : (g : given.Over) (c : After-check_operands g) (s : State) → HoldsState g.H.GcHeap.KIND c.args.store.now c.args.self.now s
-    → typed_tests s (type_at s.table.types (types_of.Fields c.type_of.result)) 0 c.args.operands.now ≡ typed_tests s (λ i. slice_get (known g (goal.at.After-check_operands g c).After-any_unset).0 i) 0 c.args.operands.now
+typed : (g : given.Over) (c : After-check_fields g) (s : State) → HoldsState g.H.GcHeap.KIND c.args.store.now c.args.self.now s
+    → typed_tests s (type_at s.table.types (types_of.Fields (type_of c.args.request))) 0 c.args.operands.now ≡ typed_tests s (λ i. slice_get c.in-Some.fields.now i) 0 c.args.operands.now
 typed g c s holds =
-    let at = (goal.at.After-check_operands g c).After-any_unset in
-    ap (λ (ty : ℕ). typed_tests s (type_at s.table.types (types_of.Fields ty)) 0 c.args.operands.now) c.type_of.ensures
-    ∙ typed_by s s.table.types (type_of c.args.request) (known g at).0 c.args.operands.now (requested_types s.table.types c.args.request (known g at).0 (known_in g at s holds))
+    typed_by s s.table.types (type_of c.args.request) c.in-Some.fields.now c.args.operands.now
+    (requested_types s.table.types c.args.request c.in-Some.fields.now (known_in g (goal.at.After-check_fields g c).After-any_unset s holds))
 
 pub returns-in-Err-clause-runs : goal.returns-in-Err-clause-runs
 returns-in-Err-clause-runs g c s holds =
-    let after = (goal.at.returns-in-Err-clause-runs g c).After-check_operands in
-    let at = (goal.at.After-check_operands g after).After-any_unset in
-    let checks = c.in-Err.ensures.checks s c.args.operands.now (holds_table holds.table) (held g after s holds) in
-    let is = fields_value s (requested_fields s.table.types c.args.request) c.args.operands.now (heap_tests g.H.GcHeap.KIND s (requested c.args.request c.args.operands.now s)) (known g at).0 (known_in g at s holds)
+    let after = (goal.at.returns-in-Err-clause-runs g c).After-check_fields in
+    let at = (goal.at.After-check_fields g after).After-any_unset in
+    let checks = c.in-Err.ensures.checks (type_of c.args.request) (of_type g after) s c.args.operands.now (holds_table holds.table) (held g after s holds) in
+    let is = fields_value s (requested_fields s.table.types c.args.request) c.args.operands.now (heap_tests g.H.GcHeap.KIND s (requested c.args.request c.args.operands.now s)) at.in-Some.fields.now (known_in g at s holds)
     (set g after s holds) (many g after) c.in-Err.refusal (sym (ap first_failing (typed g after s holds)) ∙ checks) in
     refused_on g.H.GcHeap.KIND c.args.store.now.alloc_counter (g.L.ResourceLimiter.limits c.args.limiter.now) s _ (requested_tests g.H.GcHeap.KIND s c.args.request c.args.operands.now) c.in-Err.refusal c.args.store.now c.args.self.now holds
     (mild_found (requested_tests g.H.GcHeap.KIND s c.args.request c.args.operands.now) c.in-Err.refusal
@@ -97,10 +96,10 @@ returns-in-Err-clause-runs g c s holds =
 -- what is left is up to the heap
 left : (g : given.Over) (c : After-give_values g) (s : State) → HoldsState g.H.GcHeap.KIND c.args.store.now c.args.self.now s → first_failing (requested_tests g.H.GcHeap.KIND s c.args.request c.args.operands.now) ≡ first_failing (heap_tests g.H.GcHeap.KIND s (requested c.args.request c.args.operands.now s))
 left g c s holds =
-    let after = (goal.at.After-give_values g c).After-check_operands in
-    let at = (goal.at.After-check_operands g after).After-any_unset in
-    let checks = c.in_default-check_operands.ensures.checks s c.args.operands.now (holds_table holds.table) (held g after s holds) in
-    fields_heap s (requested_fields s.table.types c.args.request) c.args.operands.now (heap_tests g.H.GcHeap.KIND s (requested c.args.request c.args.operands.now s)) (known g at).0 (known_in g at s holds)
+    let after = (goal.at.After-give_values g c).After-check_fields in
+    let at = (goal.at.After-check_fields g after).After-any_unset in
+    let checks = c.in_default-check_fields.ensures.checks (type_of c.args.request) (of_type g after) s c.args.operands.now (holds_table holds.table) (held g after s holds) in
+    fields_heap s (requested_fields s.table.types c.args.request) c.args.operands.now (heap_tests g.H.GcHeap.KIND s (requested c.args.request c.args.operands.now s)) at.in-Some.fields.now (known_in g at s holds)
     (set g after s holds) (many g after) (sym (ap first_failing (typed g after s holds)) ∙ checks.0)
 
 pub returns-then-is_err-clause-runs : goal.returns-then-is_err-clause-runs
@@ -131,29 +130,29 @@ asks_for g c s (place.Array ty n) fields e stand = absurd (none-some fields e)
 pub place-requires-clause-can : goal.place-requires-clause-can
 place-requires-clause-can g c =
     let placed = (goal.at.place-requires-clause-can g c).After-as_slice in
-    let after = (goal.at.place-requires-clause-can g c).After-check_operands in
-    let at = (goal.at.After-check_operands g after).After-any_unset in
-    can_place g placed c.args.request (known g at).0 (known g at).1.0
+    let after = (goal.at.place-requires-clause-can g c).After-check_fields in
+    let at = (goal.at.After-check_fields g after).After-any_unset in
+    can_place g placed c.args.request at.in-Some.fields.now (known g at)
     (subst (λ (raws : List RawValue). CanPlaceFields ℕ g.H.GcHeap.KIND c.args.store.now (requested_fields c.args.store.now.types c.args.request) raws) (sym (values_are g placed))
-    (fields_request g.H.GcHeap.KIND c.args.store.now c.args.request (set_operands c.self.inside.registers c.args.operands.now) (known g at).0 (known g at).1.0 (length-map c.args.operands.now (set_operand c.self.inside.registers) ∙ many g after)
-    (subst (λ (ty : ℕ). AllRawStorable g.H.GcHeap.KIND c.args.store.now (types_of.Fields ty) (set_operands c.self.inside.registers c.args.operands.now)) c.type_of.ensures c.in_default-check_operands.ensures.stores)))
+    (fields_request g.H.GcHeap.KIND c.args.store.now c.args.request (set_operands c.self.inside.registers c.args.operands.now) at.in-Some.fields.now (known g at) (length-map c.args.operands.now (set_operand c.self.inside.registers) ∙ many g after)
+    (c.in_default-check_fields.ensures.stores (type_of c.args.request) (of_type g after))))
 
 pub place-requires-clause-plain : goal.place-requires-clause-plain
 place-requires-clause-plain g c =
-    subst AllPlain (sym (values_are g (goal.at.place-requires-clause-plain g c).After-as_slice)) c.in_default-check_operands.ensures.plain
+    subst AllPlain (sym (values_are g (goal.at.place-requires-clause-plain g c).After-as_slice)) c.in_default-check_fields.ensures.plain
 
 pub returns-clause-runs : goal.returns-clause-runs
 returns-clause-runs g c s holds =
     let placed = (goal.at.returns-clause-runs g c).After-as_slice in
     let given = (goal.at.returns-clause-runs g c).After-give_values in
-    let after = (goal.at.After-give_values g given).After-check_operands in
-    let at = (goal.at.After-check_operands g after).After-any_unset in
-    let checks = c.in_default-check_operands.ensures.checks s c.args.operands.now (holds_table holds.table) (held g after s holds) in
+    let after = (goal.at.After-give_values g given).After-check_fields in
+    let at = (goal.at.After-check_fields g after).After-any_unset in
+    let checks = c.in_default-check_fields.ensures.checks (type_of c.args.request) (of_type g after) s c.args.operands.now (holds_table holds.table) (held g after s holds) in
     let stand = subst (λ (raws : List RawValue). AllStand c.args.store.now s.table raws (given_values s c.args.operands.now)) (sym (values_are g placed)) checks.1 in
     runs_on g.H.GcHeap.KIND c.args.store.now.alloc_counter (g.L.ResourceLimiter.limits c.args.limiter.now) (g.L.ResourceLimiter.limits c.place.new.limiter) s (making c.args.d (class_of c.args.request) (requested c.args.request c.args.operands.now))
     (requested_tests g.H.GcHeap.KIND s c.args.request c.args.operands.now) (heap_tests g.H.GcHeap.KIND s (requested c.args.request c.args.operands.now s)) (answer_of c.place.result) c.place.new.store (with_registers c.place.new.registers (record { owned = c.self.inside.owned; marks = c.self.inside.marks.items }))
     (left g given s holds)
-    (c.place.ensures.runs s (record { owned = c.self.inside.owned; marks = c.self.inside.marks.items }) (requested c.args.request c.args.operands.now) (subst (λ (r : RunnerView). HoldsState g.H.GcHeap.KIND c.args.store.now r s) (sym c.self.view_is) holds) (asks_for g placed s c.args.request (known g at).0 (known_in g at s holds) stand))
+    (c.place.ensures.runs s (record { owned = c.self.inside.owned; marks = c.self.inside.marks.items }) (requested c.args.request c.args.operands.now) (subst (λ (r : RunnerView). HoldsState g.H.GcHeap.KIND c.args.store.now r s) (sym c.self.view_is) holds) (asks_for g placed s c.args.request at.in-Some.fields.now (known_in g at s holds) stand))
 
 pub returns-clause-cause : goal.returns-clause-cause
 returns-clause-cause g c =

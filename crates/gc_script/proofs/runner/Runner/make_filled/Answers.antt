@@ -1,4 +1,5 @@
 use Rattle.std.proofs.Common.{◌≡◌, ℕ, List, Some, false, sym, ap, ◌∙◌, subst, refl, arith}
+use Rattle.std.specs.Option.{option_copied}
 use Rattle.gc_types.specs.Declarations.{Declaration, elem_at}
 use Rattle.gc_types.specs.declared.types.Types.{Types}
 use Rattle.gc_commands.specs.declared.command.Command.TheVariants.{NewArr}
@@ -26,12 +27,12 @@ use Rattle.gc_script.proofs.runner.Runner.make_filled.Goals as goal
 use Rattle.gc_script.proofs.runner.Runner.make_filled.Goals.{After-operand_value, In-Some-operand_value, then-len-gt0+in_default-check_value, else-len-gt0}
 
 -- the type of its elements, in each table that the store holds
-known : (g : given.Over) (c : After-operand_value g) (types : List Declaration) → c.args.store.now.types ≡ types → elem_at types c.new-ty.result ≡ Some c.in-Some.element
+known : (g : given.Over) (c : After-operand_value g) (types : List Declaration) → c.args.store.now.types ≡ types → elem_at types c.new-ty.result ≡ Some c.in-Some.element.now
 known g c types same =
-    sym (c.array_elem.ensures
+    sym (c.elem_type.ensures
     ∙ ap (λ (x : Types). elem_at x.declarations c.new-ty.result) c.types.ensures
     ∙ ap (λ (ts : List Declaration). elem_at ts c.new-ty.result) same)
-    ∙ c.in-Some.is
+    ∙ ap option_copied c.in-Some.is
 
 are_registers : (g : given.Over) (c : After-operand_value g) (s : State) → HoldsState g.H.GcHeap.KIND c.args.store.now c.args.self.now s → AreRegisters c.args.store.now c.self.inside.registers s
 are_registers g c s holds d = register_held g.H.GcHeap.KIND c.args.store.now c.args.self.now _ s d (register_at c.self.inside.registers d) c.self.view_is refl holds
@@ -48,7 +49,7 @@ returns-in_default-operand_value-clause-runs g c s holds =
     let at = (goal.at.returns-in_default-operand_value-clause-runs g c).After-operand_value in
     subst (λ (ty : ℕ). RunsOne g.H.GcHeap.KIND c.args.store.now.alloc_counter (g.L.ResourceLimiter.limits c.args.limiter.now) (g.L.ResourceLimiter.limits c.args.limiter.now) s (NewArr c.args.d ty c.args.len c.args.operand.now) (Ok (reply.Refused refusal.NoSuchName)) c.args.store.now c.args.self.now) c.new-ty.ensures
     (refused_runs g.H.GcHeap.KIND c.args.store.now.alloc_counter (g.L.ResourceLimiter.limits c.args.limiter.now) s (NewArr c.args.d c.new-ty.result c.args.len c.args.operand.now) refusal.NoSuchName c.args.store.now c.args.self.now holds
-    (array_unset g.H.GcHeap.KIND s c.args.d c.new-ty.result c.args.len c.args.operand.now c.in-Some.element (known g at s.table.types holds.table.holds.types)
+    (array_unset g.H.GcHeap.KIND s c.args.d c.new-ty.result c.args.len c.args.operand.now c.in-Some.element.now (known g at s.table.types holds.table.holds.types)
     (ap is_unset (unset_held c.args.store.now s.table (held_operand s c.args.operand.now) (c.in_default-operand_value.ensures.holds c.args.store.now s (are_registers g at s holds))))))
 
 pub returns-in-Err-clause-runs : goal.returns-in-Err-clause-runs
@@ -57,7 +58,7 @@ returns-in-Err-clause-runs g c s holds =
     let at_value = (goal.at.returns-in-Err-clause-runs g c).In-Some-operand_value in
     subst (λ (ty : ℕ). RunsOne g.H.GcHeap.KIND c.args.store.now.alloc_counter (g.L.ResourceLimiter.limits c.args.limiter.now) (g.L.ResourceLimiter.limits c.args.limiter.now) s (NewArr c.args.d ty c.args.len c.args.operand.now) (Ok (reply.Refused c.in-Err.refusal)) c.args.store.now c.args.self.now) c.new-ty.ensures
     (refused_runs g.H.GcHeap.KIND c.args.store.now.alloc_counter (g.L.ResourceLimiter.limits c.args.limiter.now) s (NewArr c.args.d c.new-ty.result c.args.len c.args.operand.now) c.in-Err.refusal c.args.store.now c.args.self.now holds
-    (array_refused g.H.GcHeap.KIND s c.args.d c.new-ty.result c.args.len c.args.operand.now c.in-Some.element (known g at s.table.types holds.table.holds.types) (set g at_value s holds) c.if-len-gt0.true c.in-Err.refusal
+    (array_refused g.H.GcHeap.KIND s c.args.d c.new-ty.result c.args.len c.args.operand.now c.in-Some.element.now (known g at s.table.types holds.table.holds.types) (set g at_value s holds) c.if-len-gt0.true c.in-Err.refusal
     (c.in-Err.ensures.checks s c.args.operand.now (holds_table holds.table) (stands g at_value s holds))))
 
 pub returns-clause-runs : goal.returns-clause-runs
@@ -70,13 +71,13 @@ returns-clause-runs g c s holds =
           subst (λ (ty : ℕ). RunsOne g.H.GcHeap.KIND c.args.store.now.alloc_counter (g.L.ResourceLimiter.limits c.args.limiter.now) (g.L.ResourceLimiter.limits c.place.new.limiter) s (NewArr c.args.d ty c.args.len c.args.operand.now) (answer_of c.place.result) c.place.new.store (with_registers c.place.new.registers (record { owned = c.self.inside.owned; marks = c.self.inside.marks.items }))) c.new-ty.ensures
           (runs_rest g.H.GcHeap.KIND c.args.store.now.alloc_counter (g.L.ResourceLimiter.limits c.args.limiter.now) (g.L.ResourceLimiter.limits c.place.new.limiter) s (NewArr c.args.d c.new-ty.result c.args.len c.args.operand.now)
           (heap_tests g.H.GcHeap.KIND s (filled_array s c.new-ty.result c.args.len c.args.operand.now)) (answer_of c.place.result) c.place.new.store (with_registers c.place.new.registers (record { owned = c.self.inside.owned; marks = c.self.inside.marks.items }))
-          (array_heap g.H.GcHeap.KIND s c.args.d c.new-ty.result c.args.len c.args.operand.now c.in-Some.element declared (set g at_value s holds) w.if-len-gt0.true (w.in_default-check_value.ensures.checks s c.args.operand.now (holds_table holds.table) (stands g at_value s holds)).0)
+          (array_heap g.H.GcHeap.KIND s c.args.d c.new-ty.result c.args.len c.args.operand.now c.in-Some.element.now declared (set g at_value s holds) w.if-len-gt0.true (w.in_default-check_value.ensures.checks s c.args.operand.now (holds_table holds.table) (stands g at_value s holds)).0)
           (c.place.ensures.runs s (record { owned = c.self.inside.owned; marks = c.self.inside.marks.items }) (λ (x : State). filled_array x c.new-ty.result c.args.len c.args.operand.now) (subst (λ (r : RunnerView). HoldsState g.H.GcHeap.KIND c.args.store.now r s) (sym c.self.view_is) holds) (given_value (given s c.args.operand.now), ((λ some. (w.in_default-check_value.ensures.checks s c.args.operand.now (holds_table holds.table) (stands g at_value s holds)).1), refl))))
       | else-len-gt0 w ↦
           subst (λ (ty : ℕ). RunsOne g.H.GcHeap.KIND c.args.store.now.alloc_counter (g.L.ResourceLimiter.limits c.args.limiter.now) (g.L.ResourceLimiter.limits c.place.new.limiter) s (NewArr c.args.d ty c.args.len c.args.operand.now) (answer_of c.place.result) c.place.new.store (with_registers c.place.new.registers (record { owned = c.self.inside.owned; marks = c.self.inside.marks.items }))) c.new-ty.ensures
           (runs_rest g.H.GcHeap.KIND c.args.store.now.alloc_counter (g.L.ResourceLimiter.limits c.args.limiter.now) (g.L.ResourceLimiter.limits c.place.new.limiter) s (NewArr c.args.d c.new-ty.result c.args.len c.args.operand.now)
           (heap_tests g.H.GcHeap.KIND s (filled_array s c.new-ty.result c.args.len c.args.operand.now)) (answer_of c.place.result) c.place.new.store (with_registers c.place.new.registers (record { owned = c.self.inside.owned; marks = c.self.inside.marks.items }))
-          (empty_heap g.H.GcHeap.KIND s c.args.d c.new-ty.result c.args.len c.args.operand.now c.in-Some.element declared (set g at_value s holds) (omega (arith, w.if-len-gt0.false)))
+          (empty_heap g.H.GcHeap.KIND s c.args.d c.new-ty.result c.args.len c.args.operand.now c.in-Some.element.now declared (set g at_value s holds) (omega (arith, w.if-len-gt0.false)))
           (c.place.ensures.runs s (record { owned = c.self.inside.owned; marks = c.self.inside.marks.items }) (λ (x : State). filled_array x c.new-ty.result c.args.len c.args.operand.now) (subst (λ (r : RunnerView). HoldsState g.H.GcHeap.KIND c.args.store.now r s) (sym c.self.view_is) holds) (given_value (given s c.args.operand.now), ((λ some. absurd (omega (arith, some, w.if-len-gt0.false))), refl))))
     ]
 
@@ -91,10 +92,10 @@ returns-clause-cause g c =
     (elim c.if-len-gt0.branch [
       | then-len-gt0+in_default-check_value w ↦
           room_may g.H.GcHeap.KIND s (NewArr c.args.d c.new-ty.result c.args.len c.args.operand.now) (filled_array s c.new-ty.result c.args.len c.args.operand.now) refl
-          (array_heap g.H.GcHeap.KIND s c.args.d c.new-ty.result c.args.len c.args.operand.now c.in-Some.element declared (set g at_value s holds) w.if-len-gt0.true (w.in_default-check_value.ensures.checks s c.args.operand.now (holds_table holds.table) (stands g at_value s holds)).0)
+          (array_heap g.H.GcHeap.KIND s c.args.d c.new-ty.result c.args.len c.args.operand.now c.in-Some.element.now declared (set g at_value s holds) w.if-len-gt0.true (w.in_default-check_value.ensures.checks s c.args.operand.now (holds_table holds.table) (stands g at_value s holds)).0)
       | else-len-gt0 w ↦
           room_may g.H.GcHeap.KIND s (NewArr c.args.d c.new-ty.result c.args.len c.args.operand.now) (filled_array s c.new-ty.result c.args.len c.args.operand.now) refl
-          (empty_heap g.H.GcHeap.KIND s c.args.d c.new-ty.result c.args.len c.args.operand.now c.in-Some.element declared (set g at_value s holds) (omega (arith, w.if-len-gt0.false)))
+          (empty_heap g.H.GcHeap.KIND s c.args.d c.new-ty.result c.args.len c.args.operand.now c.in-Some.element.now declared (set g at_value s holds) (omega (arith, w.if-len-gt0.false)))
     ]))
 
 pub place-requires-clause-plain : goal.place-requires-clause-plain
@@ -103,3 +104,14 @@ place-requires-clause-plain g c some =
       | then-len-gt0+in_default-check_value w ↦ w.in_default-check_value.ensures.plain
       | else-len-gt0 w ↦ absurd (omega (arith, some, w.if-len-gt0.false))
     ]
+
+pub place-requires-clause-can : goal.place-requires-clause-can
+place-requires-clause-can g c = record {
+  element = c.in-Some.element.now;
+  declared = known g (goal.at.place-requires-clause-can g c).After-operand_value c.args.store.now.types refl;
+  fits = λ some.
+      elim c.if-len-gt0.branch [
+        | then-len-gt0+in_default-check_value w ↦ w.in_default-check_value.ensures.stores
+        | else-len-gt0 w ↦ absurd (omega (arith, some, w.if-len-gt0.false))
+      ];
+}

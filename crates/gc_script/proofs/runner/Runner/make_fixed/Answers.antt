@@ -1,4 +1,5 @@
 use Rattle.std.proofs.Common.{◌≡◌, ℕ, List, Some, false, length, sym, ap, ◌∙◌, subst, refl, arith}
+use Rattle.std.specs.Option.{option_copied}
 use Rattle.gc_types.specs.Declarations.{Declaration, elem_at}
 use Rattle.gc_types.specs.declared.types.Types.{Types}
 use Rattle.gc_commands.specs.declared.command.Command.TheVariants.{Fixed}
@@ -31,58 +32,58 @@ use Rattle.gc_script.proofs.ResultLemmas.{on_any_err, succeeded}
 use Rattle.gc_script.proofs.WantLemmas.{room_may}
 use Rattle.gc_script.proofs.runner.Runner.make_fixed.Given as given
 use Rattle.gc_script.proofs.runner.Runner.make_fixed.Goals as goal
-use Rattle.gc_script.proofs.runner.Runner.make_fixed.Goals.{After-any_unset, After-check_operands, After-give_values, After-as_slice}
+use Rattle.gc_script.proofs.runner.Runner.make_fixed.Goals.{After-any_unset, After-check_elements, After-give_values, After-as_slice}
 
 -- the type of its elements, in each table that the store holds
-known : (g : given.Over) (c : After-any_unset g) (types : List Declaration) → c.args.store.now.types ≡ types → elem_at types c.new-ty.result ≡ Some c.in-Some.element
+known : (g : given.Over) (c : After-any_unset g) (types : List Declaration) → c.args.store.now.types ≡ types → elem_at types c.new-ty.result ≡ Some c.in-Some.element.now
 known g c types same =
-    sym (c.array_elem.ensures
+    sym (c.elem_type.ensures
     ∙ ap (λ (x : Types). elem_at x.declarations c.new-ty.result) c.types.ensures
     ∙ ap (λ (ts : List Declaration). elem_at ts c.new-ty.result) same)
-    ∙ c.in-Some.is
+    ∙ ap option_copied c.in-Some.is
 
 are_registers : (g : given.Over) (c : After-any_unset g) (s : State) → HoldsState g.H.GcHeap.KIND c.args.store.now c.args.self.now s → AreRegisters c.args.store.now c.self.inside.registers s
 are_registers g c s holds d = register_held g.H.GcHeap.KIND c.args.store.now c.args.self.now _ s d (register_at c.self.inside.registers d) c.self.view_is refl holds
 
-set : (g : given.Over) (c : After-check_operands g) (s : State) → HoldsState g.H.GcHeap.KIND c.args.store.now c.args.self.now s → any_unset s c.args.operands.now ≡ false
-set g c s holds = c.any_unset.ensures.set c.if-any_unset.false c.args.store.now s (are_registers g (goal.at.After-check_operands g c).After-any_unset s holds)
+set : (g : given.Over) (c : After-check_elements g) (s : State) → HoldsState g.H.GcHeap.KIND c.args.store.now c.args.self.now s → any_unset s c.args.operands.now ≡ false
+set g c s holds = c.any_unset.ensures.set c.if-any_unset.false c.args.store.now s (are_registers g (goal.at.After-check_elements g c).After-any_unset s holds)
 
-held : (g : given.Over) (c : After-check_operands g) (s : State) → HoldsState g.H.GcHeap.KIND c.args.store.now c.args.self.now s → AllHeld c.args.store.now s c.args.operands.now (set_operands c.self.inside.registers c.args.operands.now)
-held g c s holds = are_held c.self.inside.registers c.args.operands.now c.args.store.now s (are_registers g (goal.at.After-check_operands g c).After-any_unset s holds) (set g c s holds)
+held : (g : given.Over) (c : After-check_elements g) (s : State) → HoldsState g.H.GcHeap.KIND c.args.store.now c.args.self.now s → AllHeld c.args.store.now s c.args.operands.now (set_operands c.self.inside.registers c.args.operands.now)
+held g c s holds = are_held c.self.inside.registers c.args.operands.now c.args.store.now s (are_registers g (goal.at.After-check_elements g c).After-any_unset s holds) (set g c s holds)
 
 pub returns-then-any_unset-clause-runs : goal.returns-then-any_unset-clause-runs
 returns-then-any_unset-clause-runs g c s holds =
     let at = (goal.at.returns-then-any_unset-clause-runs g c).After-any_unset in
     subst (λ (ty : ℕ). RunsOne g.H.GcHeap.KIND c.args.store.now.alloc_counter (g.L.ResourceLimiter.limits c.args.limiter.now) (g.L.ResourceLimiter.limits c.args.limiter.now) s (Fixed c.args.d ty c.args.operands.now) (Ok (reply.Refused refusal.NoSuchName)) c.args.store.now c.args.self.now) c.new-ty.ensures
     (refused_runs g.H.GcHeap.KIND c.args.store.now.alloc_counter (g.L.ResourceLimiter.limits c.args.limiter.now) s (Fixed c.args.d c.new-ty.result c.args.operands.now) refusal.NoSuchName c.args.store.now c.args.self.now holds
-    (fixed_unset g.H.GcHeap.KIND s c.args.d c.new-ty.result c.args.operands.now c.in-Some.element (known g at s.table.types holds.table.holds.types) (c.any_unset.ensures.unset c.if-any_unset.true c.args.store.now s (are_registers g at s holds))))
+    (fixed_unset g.H.GcHeap.KIND s c.args.d c.new-ty.result c.args.operands.now c.in-Some.element.now (known g at s.table.types holds.table.holds.types) (c.any_unset.ensures.unset c.if-any_unset.true c.args.store.now s (are_registers g at s holds))))
 
 pub returns-in-Err-clause-runs : goal.returns-in-Err-clause-runs
 returns-in-Err-clause-runs g c s holds =
-    let after = (goal.at.returns-in-Err-clause-runs g c).After-check_operands in
-    let at = (goal.at.After-check_operands g after).After-any_unset in
+    let after = (goal.at.returns-in-Err-clause-runs g c).After-check_elements in
+    let at = (goal.at.After-check_elements g after).After-any_unset in
     subst (λ (ty : ℕ). RunsOne g.H.GcHeap.KIND c.args.store.now.alloc_counter (g.L.ResourceLimiter.limits c.args.limiter.now) (g.L.ResourceLimiter.limits c.args.limiter.now) s (Fixed c.args.d ty c.args.operands.now) (Ok (reply.Refused c.in-Err.refusal)) c.args.store.now c.args.self.now) c.new-ty.ensures
     (refused_runs g.H.GcHeap.KIND c.args.store.now.alloc_counter (g.L.ResourceLimiter.limits c.args.limiter.now) s (Fixed c.args.d c.new-ty.result c.args.operands.now) c.in-Err.refusal c.args.store.now c.args.self.now holds
-    (fixed_refused g.H.GcHeap.KIND s c.args.d c.new-ty.result c.args.operands.now c.in-Some.element (known g at s.table.types holds.table.holds.types) (set g after s holds) c.in-Err.refusal (c.in-Err.ensures.checks s c.args.operands.now (holds_table holds.table) (held g after s holds))))
+    (fixed_refused g.H.GcHeap.KIND s c.args.d c.new-ty.result c.args.operands.now c.in-Some.element.now (known g at s.table.types holds.table.holds.types) (set g after s holds) c.in-Err.refusal (c.in-Err.ensures.checks s c.args.operands.now (holds_table holds.table) (held g after s holds))))
 
 pub returns-in_default-try_from-clause-runs : goal.returns-in_default-try_from-clause-runs
 returns-in_default-try_from-clause-runs g c s holds =
-    let after = (goal.at.returns-in_default-try_from-clause-runs g c).After-check_operands in
-    let at = (goal.at.After-check_operands g after).After-any_unset in
+    let after = (goal.at.returns-in_default-try_from-clause-runs g c).After-check_elements in
+    let at = (goal.at.After-check_elements g after).After-any_unset in
     let declared = known g at s.table.types holds.table.holds.types in
-    let checks = c.in_default-check_operands.ensures.checks s c.args.operands.now (holds_table holds.table) (held g after s holds) in
+    let checks = c.in_default-check_elements.ensures.checks s c.args.operands.now (holds_table holds.table) (held g after s holds) in
     subst (λ (ty : ℕ). RunsOne g.H.GcHeap.KIND c.args.store.now.alloc_counter (g.L.ResourceLimiter.limits c.args.limiter.now) (g.L.ResourceLimiter.limits c.args.limiter.now) s (Fixed c.args.d ty c.args.operands.now) (Ok (reply.Refused refusal.TooLarge)) c.args.store.now c.args.self.now) c.new-ty.ensures
     (refused_runs g.H.GcHeap.KIND c.args.store.now.alloc_counter (g.L.ResourceLimiter.limits c.args.limiter.now) s (Fixed c.args.d c.new-ty.result c.args.operands.now) refusal.TooLarge c.args.store.now c.args.self.now holds
-    (fixed_heap g.H.GcHeap.KIND s c.args.d c.new-ty.result c.args.operands.now c.in-Some.element declared (set g after s holds) checks.0
-    ∙ many_refused g.H.GcHeap.KIND s c.new-ty.result (map (stored (element_of s.table.types c.new-ty.result)) (given_values s c.args.operands.now)) c.in-Some.element declared (omega (arith, c.in_default-try_from.ensures, length-map (given_values s c.args.operands.now) (stored (element_of s.table.types c.new-ty.result)), length-map c.args.operands.now (λ (v : Operand). given_value (given s v))))))
+    (fixed_heap g.H.GcHeap.KIND s c.args.d c.new-ty.result c.args.operands.now c.in-Some.element.now declared (set g after s holds) checks.0
+    ∙ many_refused g.H.GcHeap.KIND s c.new-ty.result (map (stored (element_of s.table.types c.new-ty.result)) (given_values s c.args.operands.now)) c.in-Some.element.now declared (omega (arith, c.in_default-try_from.ensures, length-map (given_values s c.args.operands.now) (stored (element_of s.table.types c.new-ty.result)), length-map c.args.operands.now (λ (v : Operand). given_value (given s v))))))
 
 -- what is left is up to the heap
 left : (g : given.Over) (c : After-give_values g) (s : State) → HoldsState g.H.GcHeap.KIND c.args.store.now c.args.self.now s → first_failing (tests g.H.GcHeap.KIND s (Fixed c.args.d c.new-ty.result c.args.operands.now)) ≡ first_failing (heap_tests g.H.GcHeap.KIND s (new_fixed s c.new-ty.result c.args.operands.now))
 left g c s holds =
-    let after = (goal.at.After-give_values g c).After-check_operands in
-    let at = (goal.at.After-check_operands g after).After-any_unset in
-    fixed_heap g.H.GcHeap.KIND s c.args.d c.new-ty.result c.args.operands.now c.in-Some.element (known g at s.table.types holds.table.holds.types) (set g after s holds)
-    (c.in_default-check_operands.ensures.checks s c.args.operands.now (holds_table holds.table) (held g after s holds)).0
+    let after = (goal.at.After-give_values g c).After-check_elements in
+    let at = (goal.at.After-check_elements g after).After-any_unset in
+    fixed_heap g.H.GcHeap.KIND s c.args.d c.new-ty.result c.args.operands.now c.in-Some.element.now (known g at s.table.types holds.table.holds.types) (set g after s holds)
+    (c.in_default-check_elements.ensures.checks s c.args.operands.now (holds_table holds.table) (held g after s holds)).0
 
 may : (g : given.Over) (c : After-give_values g) (s : State) → HoldsState g.H.GcHeap.KIND c.args.store.now c.args.self.now s → MayWant g.H.GcHeap.KIND s (Fixed c.args.d c.args.t c.args.operands.now)
 may g c s holds =
@@ -102,20 +103,20 @@ pub place-requires-clause-can : goal.place-requires-clause-can
 place-requires-clause-can g c =
     let placed = (goal.at.place-requires-clause-can g c).After-as_slice in
     let at = (goal.at.place-requires-clause-can g c).After-any_unset in
-    elements_request g.H.GcHeap.KIND c.args.store.now c.new-ty.result c.in-Ok.len c.as_slice.result.now c.in-Some.element (known g at c.args.store.now.types refl)
+    elements_request g.H.GcHeap.KIND c.args.store.now c.new-ty.result c.in-Ok.len c.as_slice.result.now c.in-Some.element.now (known g at c.args.store.now.types refl)
     (ap length (values_are g placed) ∙ length-map c.args.operands.now (set_operand c.self.inside.registers) ∙ sym c.in-Ok.ensures.1)
-    (subst (AllRawStorable g.H.GcHeap.KIND c.args.store.now (types_of.Elements c.in-Some.element)) (sym (values_are g placed)) c.in_default-check_operands.ensures.stores)
+    (subst (AllRawStorable g.H.GcHeap.KIND c.args.store.now (types_of.Elements c.in-Some.element.now)) (sym (values_are g placed)) c.in_default-check_elements.ensures.stores)
 
 pub place-requires-clause-plain : goal.place-requires-clause-plain
 place-requires-clause-plain g c =
-    subst AllPlain (sym (values_are g (goal.at.place-requires-clause-plain g c).After-as_slice)) c.in_default-check_operands.ensures.plain
+    subst AllPlain (sym (values_are g (goal.at.place-requires-clause-plain g c).After-as_slice)) c.in_default-check_elements.ensures.plain
 
 pub returns-clause-runs : goal.returns-clause-runs
 returns-clause-runs g c s holds =
     let placed = (goal.at.returns-clause-runs g c).After-as_slice in
     let given = (goal.at.returns-clause-runs g c).After-give_values in
-    let after = (goal.at.After-give_values g given).After-check_operands in
-    let checks = c.in_default-check_operands.ensures.checks s c.args.operands.now (holds_table holds.table) (held g after s holds) in
+    let after = (goal.at.After-give_values g given).After-check_elements in
+    let checks = c.in_default-check_elements.ensures.checks s c.args.operands.now (holds_table holds.table) (held g after s holds) in
     let stand = subst (λ (raws : List RawValue). AllStand c.args.store.now s.table raws (given_values s c.args.operands.now)) (sym (values_are g placed)) checks.1 in
     subst (λ (ty : ℕ). RunsOne g.H.GcHeap.KIND c.args.store.now.alloc_counter (g.L.ResourceLimiter.limits c.args.limiter.now) (g.L.ResourceLimiter.limits c.place.new.limiter) s (Fixed c.args.d ty c.args.operands.now) (answer_of c.place.result) c.place.new.store (with_registers c.place.new.registers (record { owned = c.self.inside.owned; marks = c.self.inside.marks.items }))) c.new-ty.ensures
     (runs_rest g.H.GcHeap.KIND c.args.store.now.alloc_counter (g.L.ResourceLimiter.limits c.args.limiter.now) (g.L.ResourceLimiter.limits c.place.new.limiter) s (Fixed c.args.d c.new-ty.result c.args.operands.now)
