@@ -79,6 +79,8 @@ impl Round {
     }
 
     /// `new`: makes its object. Its operands stand in the list that is handed in.
+    // In place, so that it is known which command is run.
+    #[inline(always)]
     pub(crate) fn make(&self, alloc: Global, room: &mut Operands) -> Result<Command, AllocError>
         requires { self.now.number ≤ max_rounds }
         ensures { IfOk result (λ command. command ≡ Command.New 2 0 (named_by self.now.seed ∷ Operand.I32 (pos self.now.number) ∷ [])) }

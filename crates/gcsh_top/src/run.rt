@@ -21,7 +21,7 @@ use crate::write::write_all;
 use gc_heap::GcHeap;
 use gc_script::{
     Command, DONE_LINE, Ending, LineCutter, Operands, Refusal, Reply, RunError, Runner, fixed_line,
-    is_quiet, keep_operands, parse_line_into, push_reply, refusal_line,
+    is_quiet, keep_operands, lone_of, parse_line_into, push_reply, refusal_line,
 };
 use gc_store::{ResourceLimiter, Store};
 use std::alloc::{AllocError, Global};
@@ -125,24 +125,25 @@ fn write_ending<K: Sink>(sink: &mut K, ending: Ending) -> Result<(), LineFault>
 
 /// Runs a command that tells something, and writes its reply.
 // Not `inline(always)`: else each line would clear the rooms of replies, also where its command tells nothing.
+// It takes the command: of one that is lent, each line would keep all parts in memory.
 fn tell<H: GcHeap, K: Sink>(
     runner: &mut Runner,
     store: &mut Store<H, u64>,
-    command: &Command,
+    command: Command,
     text: &mut String,
     sink: &mut K,
 ) -> Result<(), LineFault>
-    requires built { is_built command.now ≡ true }
-    requires telling { is_quiet command.now ≡ false }
-    ensures ran { (limits : Limits) → OnOk result ((line : List ℕ) (s : State) → IsCommandOf line command.now → HoldsState H.KIND store.old runner.old s
+    requires built { is_built command ≡ true }
+    requires telling { is_quiet command ≡ false }
+    ensures ran { (limits : Limits) → OnOk result ((line : List ℕ) (s : State) → IsCommandOf line command → HoldsState H.KIND store.old runner.old s
         → RanLine H.KIND store.old.alloc_counter limits limits s line store.new runner.new (K.tells sink.old).held (K.tells sink.new).held) }
-    ensures broke_off { (limits : Limits) → OnErr result ((line : List ℕ) (s : State) → IsCommandOf line command.now → HoldsState H.KIND store.old runner.old s
+    ensures broke_off { (limits : Limits) → OnErr result ((line : List ℕ) (s : State) → IsCommandOf line command → HoldsState H.KIND store.old runner.old s
         → BrokeOff H.KIND store.old.alloc_counter limits s line store.new runner.new (K.tells sink.old).held (K.tells sink.new).held) }
     ensures failed { IsErrOf result LineFault.Sink → Rose (K.tells sink.old).faults (K.tells sink.new).faults }
     ensures faults { (K.tells sink.old).faults ≤ (K.tells sink.new).faults }
     ensures same { IsSameStore store.old store.new }
 {
-    match runner.run_telling(store, command) {
+    match runner.run_telling(store, &command) {
         Ok(reply) => write_reply(text, sink, &reply),
         Err(RunError::OutOfMemory) => Err(LineFault::Memory),
     }
@@ -168,6 +169,10 @@ fn run_line<H: GcHeap, L: ResourceLimiter, K: Sink>(
     ensures faults { (K.tells sink.old).faults ≤ (K.tells sink.new).faults }
     ensures same { IsSameStore store.old store.new }
 {
+    // Told by all its bytes: no command is read.
+    if let Some(lone) = lone_of(line) {
+        return write_ending(sink, runner.run_lone(store, lone));
+    }
     let Ok(command) = parse_line_into(alloc, &mut room.operands, line) else {
         return Err(LineFault::Memory);
     };
@@ -180,7 +185,7 @@ fn run_line<H: GcHeap, L: ResourceLimiter, K: Sink>(
         keep_operands(&mut room.operands, command);
         return write_ending(sink, ending);
     }
-    tell(runner, store, &command, &mut room.text, sink)
+    tell(runner, store, command, &mut room.text, sink)
 }
 
 /// Runs the line of which that is kept, and writes its reply.

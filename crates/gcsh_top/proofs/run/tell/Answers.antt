@@ -8,7 +8,7 @@ pub returns-in-Ok-clause-ran : goal.returns-in-Ok-clause-ran
 returns-in-Ok-clause-ran g c limits =
     on_ok c.write_reply.result
     (λ replied line s is holds. record {
-      command = c.args.command.now;
+      command = c.args.command;
       answer = c.in-Ok.reply;
       is_command = is;
       ran = c.in-Ok.ensures.runs limits s holds;
@@ -20,5 +20,5 @@ returns-in-Ok-clause-ran g c limits =
 pub returns-in-Ok-clause-broke_off : goal.returns-in-Ok-clause-broke_off
 returns-in-Ok-clause-broke_off g c limits = on_err c.write_reply.result (λ part line s is holds. not_written is (c.in-Ok.ensures.runs limits s holds) part) c.write_reply.ensures.part
 
-pub returns-in-Err-OutOfMemory-clause-broke_off : goal.returns-in-Err-OutOfMemory-clause-broke_off
-returns-in-Err-OutOfMemory-clause-broke_off g c limits line s is holds = not_run is (c.in-Err-OutOfMemory.ensures.runs limits s holds) (keeps_same _)
+pub returns-clause-broke_off : goal.returns-clause-broke_off
+returns-clause-broke_off g c limits line s is holds = not_run is (c.in-Err-OutOfMemory.ensures.runs limits s holds) (keeps_same _)
