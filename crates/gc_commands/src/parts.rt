@@ -4,8 +4,8 @@
 //! A reader takes words off the front and answers `None` exactly where they spell nothing that it
 //! reads.
 //!
-//! Those that read all the words of a form are calls: in place they would make the reader of all forms too large to be put
-//! in place itself.
+//! Those that read all the words of a form are calls, so that the reader of all forms, which is put in place, stays
+//! small.
 
 ghost use Rattle.std.specs.Prelude.{◌≡◌, ℕ, ◌<◌, ◌^◌, List, [], IfOk, IfSome, MatchOption, map};
 ghost use Rattle.std.specs.Fmt.{decimal};

@@ -125,7 +125,7 @@ fn write_ending<K: Sink>(sink: &mut K, ending: Ending) -> Result<(), LineFault>
 
 /// Runs a command that tells something, and writes its reply.
 // Not `inline(always)`: else each line would clear the rooms of replies, also where its command tells nothing.
-// It takes the command: of one that is lent, each line would keep all parts in memory.
+// It takes the command, as nothing of it is wanted behind.
 fn tell<H: GcHeap, K: Sink>(
     runner: &mut Runner,
     store: &mut Store<H, u64>,
