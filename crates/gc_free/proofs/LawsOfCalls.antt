@@ -36,7 +36,7 @@ take_sound : (s : Space) (size : ℕ) → IsSound s → IsAllowed (Take size) s 
 take_sound s size sound ok =
     (place_kept size s (without (is_current s.current) (free_runs s)) (length s.held + 3) (length s.held + 3) (length s.held) (as_kept s sound) (omega arith) ok.0 ok.1 (omega arith)).placed.kept.sound
 
-give_sound : (s : Space) (b : Run) → IsSound s → Contains s.held b → IsSound (give b s)
+pub give_sound : (s : Space) (b : Run) → IsSound s → Contains s.held b → IsSound (give b s)
 give_sound s b sound has =
     ((give_kept b s (without (is_current s.current) (free_runs s)) (length s.held + 3) (length s.held) (as_kept s sound) has).kept (length s.held + 3) (omega arith)).sound
 
@@ -141,11 +141,11 @@ in_contains b [] h = absurd h
 in_contains b (x ∷ xs) (inl e) = (0, omega arith, e)
 in_contains b (x ∷ xs) (inr h) = let c = in_contains b xs h in (suc c.0, (let l : c.0 < length xs = c.1 in omega arith), c.2)
 
-record Stays (test : Run → Bool) (b : Run) (xs : List Run) : Type 0 where
-  among : In b xs
-  passes : test b ≡ false
+pub record Stays (test : Run → Bool) (b : Run) (xs : List Run) : Type 0 where
+  pub among : In b xs
+  pub passes : test b ≡ false
 
-in_without : (test : Run → Bool) (b : Run) (xs : List Run) → In b (without test xs) → Stays test b xs
+pub in_without : (test : Run → Bool) (b : Run) (xs : List Run) → In b (without test xs) → Stays test b xs
 in_without test b [] h = absurd h
 in_without test b (x ∷ xs) h =
     elim (cases_Bool (test x)) [
@@ -173,7 +173,7 @@ record Exchanges (a b : Run) (s : Space) : Type 0 where
 places_swap : (a b : Run) (held : List Run) → without (begins_at b.place) (without (begins_at a.place) held) ≡ without (begins_at a.place) (without (begins_at b.place) held)
 places_swap a b held = without-swap (begins_at b.place) (begins_at a.place) held
 
-space_same : (capacity : ℕ) (g h : List Run) (o p : Option Run) → g ≡ h → o ≡ p
+pub space_same : (capacity : ℕ) (g h : List Run) (o p : Option Run) → g ≡ h → o ≡ p
     → (let x : Space = record { capacity = capacity; held = g; current = o } in x) ≡ record { capacity = capacity; held = h; current = p }
 space_same capacity g h o p e f = ap (λ l. record { capacity = capacity; held = l; current = o }) e ∙ ap (λ c. record { capacity = capacity; held = h; current = c }) f
 
@@ -224,11 +224,11 @@ exchange s a b sound ha hab =
       second = hba;
     }
 
-record SameBatch (bs cs : List Run) (s : Space) : Type 0 where
-  same : give_all bs s ≡ give_all cs s
-  are_held : AreHeld cs s
+pub record SameBatch (bs cs : List Run) (s : Space) : Type 0 where
+  pub same : give_all bs s ≡ give_all cs s
+  pub are_held : AreHeld cs s
 
-reordered : (bs cs : List Run) → IsReordered bs cs → (s : Space) → IsSound s → AreHeld bs s → SameBatch bs cs s
+pub reordered : (bs cs : List Run) → IsReordered bs cs → (s : Space) → IsSound s → AreHeld bs s → SameBatch bs cs s
 reordered bs cs nothing s sound ok = record { same = refl; are_held = tt }
 reordered bs cs (later b xs ys h) s sound ok =
     let i = reordered xs ys h (give b s) (give_sound s b sound ok.0) ok.1 in record { same = i.same; are_held = (ok.0, i.are_held) }

@@ -20,4 +20,7 @@ pub mod LawsOfRuns
 pub mod LawsOfCalls
 pub mod LawsOfCurrent
 pub mod Holding
+pub mod JoinedBlocks
+pub mod WaitingRuns
 pub mod JoinedAt
+pub mod EndedBefore

@@ -11,4 +11,5 @@ pub mod Placed
 pub mod Kept
 pub mod Listed
 pub mod View
+pub mod Waiting
 pub mod Laws

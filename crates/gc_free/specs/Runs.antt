@@ -48,3 +48,12 @@ ends_at place r = end_of r == place
 -- the others than those that pass a test
 abbrev pub without : (Run → Bool) → List Run → List Run
 without test rs = filter (λ r. not (test r)) rs
+
+-- the run of two that touch, the lower first
+abbrev pub as_one : Run → Run → Run
+as_one a b = run a.place (a.length + b.length)
+
+-- among rising blocks two that touch, the lower first, as one
+abbrev pub joined_in : Run → Run → List Run → List Run
+joined_in a b [] = []
+joined_in a b (x ∷ xs) = cond (x.place == a.place) (as_one a b ∷ without (begins_at b.place) xs) (x ∷ joined_in a b xs)

@@ -1,9 +1,10 @@
 //! The coalescing free list.
-ghost use Rattle.std.specs.Prelude.{◌≡◌, ◌+◌, ◌-◌, ◌*◌, ◌%◌, ◌^◌, ◌<◌, ◌≤◌, ◌↔◌, IfOk, OnOk, OnErr, IsNone, IfNone, IfSome, All, Contains, MatchOption, None, length, option_map};
+ghost use Rattle.std.specs.Prelude.{◌≡◌, ◌≢◌, ◌+◌, ◌-◌, ◌*◌, ◌%◌, ◌^◌, ◌<◌, ◌≤◌, ◌↔◌, true, false, IfOk, OnOk, OnErr, IsNone, IfNone, IfSome, All, Contains, MatchOption, None, length, option_map};
 ghost use Rattle.std.specs.Int.NonZero.{non_zero_u32_get};
-ghost use Rattle.gc_free.specs.Runs.{run};
+ghost use Rattle.gc_free.specs.Runs.{run, end_of};
 ghost use Rattle.gc_free.specs.Listed.{listed, current_at, run_length_at};
 ghost use Rattle.gc_free.specs.Space.{free_runs, new_space, take, give, grow, IsSound, IsTaken};
+ghost use Rattle.gc_free.specs.Waiting.{with_joined};
 
 use crate::blocks::FreeBlocks;
 use crate::free_runs::FreeRuns;
@@ -250,6 +251,45 @@ impl FreeList {
             length: alloc_size,
         };
         self.give_back::<Brand>(block, Blank::new(1));
+    }
+
+    /// As `dealloc_fast`, by the block.
+    pub(crate) fn give_run(&mut self, block: Run)
+        requires { Contains self.old.space.held block }
+        ensures given { self.new.space ≡ give block self.old.space }
+        ensures memory { self.new.memory ≡ self.old.memory }
+        ensures sound { IsSound self.new.space }
+    {
+        self.give_back::<Brand>(block, Blank::new(1));
+    }
+
+    /// Whether a run is current, though it may have no places.
+    #[inline(always)]
+    pub(crate) fn has_current(&self) -> bool
+        ensures none { result ≡ false → self.now.space.current ≡ None }
+        ensures some { result ≡ true → self.now.space.current ≢ None }
+        ensures sound { IsSound self.now.space }
+    {
+        match self.current {
+            Some(_) => true,
+            None => false,
+        }
+    }
+
+    /// Two held blocks that touch, the lower first, are held as one from now on. No run is current.
+    /// Takes no memory, and constant time.
+    #[inline(always)]
+    pub(crate) fn join_held(&mut self, first: Run, second: Run)
+        requires first { Contains self.old.space.held first }
+        requires second { Contains self.old.space.held second }
+        requires touch { end_of first ≡ second.place }
+        requires idle { self.old.space.current ≡ None }
+        ensures joined { self.new.space ≡ with_joined first second self.old.space }
+        ensures memory { self.new.memory ≡ self.old.memory }
+        ensures sound { IsSound self.new.space }
+    {
+        self.blocks -= 1;
+        self.held = self.held.after(&Change::Joined(first, second));
     }
 
     fn give_back<L: Ledger>(&mut self, block: Run, blank: Blank)

@@ -133,6 +133,9 @@ impl FreeRuns {
         ensures grown { self.old.room ≤ self.new.room }
         ensures ok { OnOk result (room ≤ self.new.room) }
     {
+        if room <= self.by_place.capacity() && room <= self.by_length.capacity() {
+            return Ok(());
+        }
         let missing = room.saturating_sub(self.by_place.len());
         self.by_place.reserve(missing)?;
         self.by_length.reserve(missing)?;

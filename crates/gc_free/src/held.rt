@@ -22,6 +22,8 @@ impl Model for HeldBlocks {
 pub(crate) enum Change {
     Taken(Run),
     Given(Run),
+    /// Two that touch are one, the lower first.
+    Joined(Run, Run),
 }
 
 impl HeldBlocks {

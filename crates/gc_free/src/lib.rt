@@ -13,6 +13,7 @@
 //! blocks and current run, which are its `Space`, and its memory. The laws of spaces are in `laws`.
 #![tactic(auto)]
 
+mod batched;
 mod blocks;
 mod free_list;
 mod free_runs;
@@ -26,6 +27,7 @@ mod placing;
 mod run;
 mod search;
 
+pub use batched::BatchedFreeList;
 pub use blocks::FreeBlocks;
 pub use free_list::FreeList;
 pub use gc_steps::Steps;
