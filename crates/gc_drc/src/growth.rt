@@ -8,14 +8,14 @@ ghost use Rattle.gc_free.specs.Space.{grow, IsSound};
 ghost use Rattle.gc_drc.specs.Content.{IsSoundSpace, counting_seen_in};
 
 use crate::space::CountedSpace;
-use gc_free::FreeList;
+use gc_free::BatchedFreeList;
 use gc_heap::{HeapMemory, HeapSpace};
 use std::alloc::Global;
 
 /// What a heap knows of its memory while that is out.
 #[derive(Drop)]
 pub(crate) struct Marks {
-    pub(crate) free: FreeList,
+    pub(crate) free: BatchedFreeList,
     pub(crate) shown: u32,
     pub(crate) queued: u32,
     pub(crate) objects: u64,
@@ -30,7 +30,7 @@ impl CountedSpace {
         ensures back { IfErr result (λ given. given ≡ memory) }
     {
         let _pages = memory.pages();
-        match FreeList::new(alloc, memory.byte_size()) {
+        match BatchedFreeList::new(alloc, memory.byte_size()) {
             Ok(free) => Ok(CountedSpace {
                 memory,
                 free,

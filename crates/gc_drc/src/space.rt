@@ -13,7 +13,7 @@ ghost use Rattle.std.specs.Prelude.{◌≡◌, ◌+◌, ◌/◌, ◌%◌, ◌≤
 ghost use Rattle.gc_view.specs.Bytes.{put_u32};
 ghost use Rattle.gc_memory.specs.Words.{word, word64, put_u64};
 
-use gc_free::FreeList;
+use gc_free::BatchedFreeList;
 use gc_memory::HeapMemory;
 use gc_memory::offsets::{COUNTING_COUNT, COUNTING_LINK, COUNTING_LIST, COUNTING_SIZE};
 
@@ -31,7 +31,7 @@ pub(crate) const QUEUED: u32 = 4;
 pub(crate) struct CountedSpace {
     pub(crate) memory: HeapMemory,
     /// The block of each object, and the places between them.
-    pub(crate) free: FreeList,
+    pub(crate) free: BatchedFreeList,
     /// The first object of the list of shown words; 0 is none.
     pub(crate) shown: u32,
     /// The first object that is queued to be freed; 0 is none.

@@ -19,7 +19,8 @@ impl CountedSpace {
         }
         let mut place = self.next_place(16);
         while place < end {
-            let next = self.next_place(self.block_end(place));
+            let behind = self.block_end(place);
+            let next = self.next_place(behind);
             self.clear_mark(place);
             place = next;
         }

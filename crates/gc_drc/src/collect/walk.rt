@@ -59,11 +59,12 @@ impl CountedSpace {
     }
 
     /// The first held block from a place on, or the end of the managed places where there is none. Blocks
-    /// may begin at that place.
+    /// may begin at that place. The free list may take what waits in it, which nothing shows.
     #[inline(always)]
-    pub(crate) fn next_place(&self, from: u32) -> u32
-        requires { CanWalk self.now from }
-        ensures { (c : Context) (v : View) → At c v self.now → IsBorder v from → IsNext v.places (walk_end self.now) from result }
+    pub(crate) fn next_place(&mut self, from: u32) -> u32
+        requires { CanWalk self.old from }
+        ensures next { (c : Context) (v : View) → At c v self.old → IsBorder v from → IsNext v.places (walk_end self.old) from result }
+        ensures same { self.new ≡ self.old }
     {
         match self.free.run_at(from) {
             Some(length) => from + length,
@@ -114,7 +115,8 @@ impl CountedSpace {
         }
         let mut place = self.next_place(16);
         while place < end {
-            let next = self.next_place(self.block_end(place));
+            let behind = self.block_end(place);
+            let next = self.next_place(behind);
             self.free_if_unmarked(types, place, hosts);
             place = next;
         }
