@@ -162,17 +162,15 @@ number_turn items i m d f within small read low digit same =
     (subst (λ x. m * 16 + x < 16 ^ (i + 1)) (sym same) (small_step i m d small low), more ∙ step ∙ ap (λ x. hex_digits (i + 1) (m * 16 + x)) (sym same))
 
 -- the end of it
-pub number_done : (word items : List ℕ) (digits i m : ℕ) → items ≡ word → length word ≡ digits → length items ≤ i → i ≤ length items → m < 16 ^ i → take i items ≡ hex_digits i m
+pub number_done : (word : List ℕ) (digits i m : ℕ) → length word ≡ digits → length word ≤ i → i ≤ length word → m < 16 ^ i → take i word ≡ hex_digits i m
     → (m < 16 ^ digits) × (word ≡ hex_digits digits m)
-number_done word items digits i m same long end within small read =
-    let lengths = ap length same in
+number_done word digits i m long end within small read =
     let count : i ≡ digits = omega arith in
-    (subst (λ k. m < 16 ^ k) count small, sym same ∙ sym (take_all i items end) ∙ read ∙ ap (λ k. hex_digits k m) count)
+    (subst (λ k. m < 16 ^ k) count small, sym (take_all i word end) ∙ read ∙ ap (λ k. hex_digits k m) count)
 
 -- 32 digits fit 128 bits
-pub number_fits : (word items : List ℕ) (digits i m f d : ℕ) → items ≡ word → length word ≡ digits → digits ≤ 32 → i < length items → m < 16 ^ i → d < 16 → f ≡ d → (m * 16 < 2 ^ 128) × (m * 16 + f < 2 ^ 128)
-number_fits word items digits i m f d same long few within small low is =
-    let lengths = ap length same in
+pub number_fits : (word : List ℕ) (digits i m f d : ℕ) → length word ≡ digits → digits ≤ 32 → i < length word → m < 16 ^ i → d < 16 → f ≡ d → (m * 16 < 2 ^ 128) × (m * 16 + f < 2 ^ 128)
+number_fits word digits i m f d long few within small low is =
     let step = small_step i m d small low in
     let bound : 16 ^ (i + 1) ≤ 16 ^ 32 = pow-le-pow_right {n = 16} (omega arith) {i = i + 1} {j = 32} (omega arith) in
     (omega arith, omega arith)

@@ -1,11 +1,9 @@
 -- A line and its words: what spells a command is cut into the command's words, and joins them again.
-use Rattle.std.proofs.Common.{◌≡◌, ◌==◌, ℕ, suc, zero, ◌<◌, ◌≤◌, List, [], ◌∷◌, ◌++◌, length, codes, refl, sym, ap, subst, ◌∙◌, arith, false, Option, None, Some, Bor, IfSome, MatchOption}
+use Rattle.std.proofs.Common.{◌≡◌, ◌==◌, ℕ, ◌<◌, ◌≤◌, List, [], ◌∷◌, length, codes, refl, sym, ap, subst, ◌∙◌, arith, false, Some}
 use Rattle.std.specs.List.{All, join_with_byte, slice_split}
-use Rattle.std.specs.Str.{IsAscii, IsUtf8}
 use Rattle.std.proofs.lemmas.Bool.{ne_eqb}
 use Rattle.std.proofs.lemmas.List.Elements.{All-nil, All-cons}
 use Rattle.std.proofs.lemmas.List.Splits.{join_with_byte-slice_split, slice_split_at, slice_split_none}
-use Rattle.std.proofs.lemmas.Str.{IsAscii-append, IsUtf8-from_ascii}
 use Rattle.gc_commands.specs.declared.command.Command.{Command}
 use Rattle.gc_commands.specs.declared.command.Command.TheVariants as command
 use Rattle.gc_commands.specs.declared.form.Form.{Form}
@@ -15,7 +13,6 @@ use Rattle.gc_commands.specs.Spelling.{FitsCommand, IsCommandOf, Spells, max_lin
 use Rattle.gc_commands.proofs.FormLemmas.{has_form, words_by_form}
 use Rattle.gc_commands.proofs.GraphicLemmas.{AreWords, IsWord, word_text}
 use Rattle.gc_commands.proofs.ShapeLemmas.{operands_fit}
-use Rattle.gc_commands.proofs.WordLemmas.{ascii_behind}
 
 word_name : (f : Form) → IsWord (name_of f)
 word_name form.Struct = word_text (codes "struct") refl
@@ -42,20 +39,6 @@ cut_joined (word ∷ []) all some = slice_split_none (λ b. b == 32) word (no_sp
 cut_joined (word ∷ next ∷ words) all some =
     slice_split_at (λ b. b == 32) word 32 (join_with_byte 32 (next ∷ words)) (no_space word all.0) refl ∙ ap (λ ws. word ∷ ws) (cut_joined (next ∷ words) all.1 (omega arith))
 
-ascii_cons : (b : ℕ) (text : List ℕ) → b < 128 → IsAscii text → IsAscii (b ∷ text)
-ascii_cons b text low all zero = low
-ascii_cons b text low all (suc i) = all i
-
-pub ascii_word : (word : List ℕ) → IsWord word → IsAscii word
-ascii_word [] all = λ i. omega arith
-ascii_word (b ∷ word) all = ascii_cons b word all.0.1 (ascii_word word all.1)
-
-pub ascii_joined : (words : List (List ℕ)) → AreWords words → IsAscii (join_with_byte 32 words)
-ascii_joined [] all = λ i. omega arith
-ascii_joined (word ∷ []) all = ascii_word word all.0
-ascii_joined (word ∷ next ∷ words) all =
-    IsAscii-append word (32 ∷ join_with_byte 32 (next ∷ words)) (ascii_word word all.0) (ascii_cons 32 (join_with_byte 32 (next ∷ words)) (omega arith) (ascii_joined (next ∷ words) all.1))
-
 -- the words of a command's spelling are those of the command
 pub words_of_spelling : (c : Command) → FitsCommand c → slice_split (λ b. b == 32) (spelling c) ≡ words_of c
 words_of_spelling c fits = cut_joined (words_of c) (words_fit c fits) (some_words c fits)
@@ -71,8 +54,3 @@ spells_of_words line c fits short words = record { fits = fits; short = short; s
 pub command_of_words : (line : List ℕ) (c : Command) → FitsCommand c → length line ≤ max_line → slice_split (λ b. b == 32) line ≡ words_of c → IsCommandOf line c
 command_of_words line command.Bad fits short words = absurd fits
 command_of_words line c fits short words = spells_of_words line c fits short words
-
--- a line whose words behind the first one are no text
-pub no_text_behind : (line name : List ℕ) (behind : Option (Bor (List ℕ))) → MatchOption behind ⊥ (λ rest. IsUtf8 rest.now → ⊥) → IfSome behind (λ rest. line ≡ name ++ 32 ∷ rest.now) → (c : Command) → Spells line c → ⊥
-no_text_behind line name None none cut c s = none
-no_text_behind line name (Some rest) none cut c s = none (IsUtf8-from_ascii rest.now (ascii_behind name rest.now (subst IsAscii (sym s.spelled ∙ cut) (ascii_joined (words_of c) (words_fit c s.fits)))))

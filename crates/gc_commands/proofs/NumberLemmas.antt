@@ -38,9 +38,9 @@ spelled_by bs n plain all is small =
     let some : 0 < length bs = ⊎_elim (λ zero. let one = ap length zero in omega arith) (λ range. no_first bs range.0) plain in
     sym (decimal-digits_value own bs all some lone (omega arith)) ∙ ap decimal (sym is)
 
-pub spelled_all : (word bs : List ℕ) (i n : ℕ) → IsPlain word → bs ≡ word → length bs ≤ i → AllDigits 10 (take i bs) → n ≡ digits_value 10 (take i bs) → n < 2 ^ 64 → word ≡ decimal n
-spelled_all word bs i n plain same past all is small =
-    let whole : take i bs ≡ word = take_all i bs past ∙ same in
+pub spelled_all : (word : List ℕ) (i n : ℕ) → IsPlain word → length word ≤ i → AllDigits 10 (take i word) → n ≡ digits_value 10 (take i word) → n < 2 ^ 64 → word ≡ decimal n
+spelled_all word i n plain past all is small =
+    let whole : take i word ≡ word = take_all i word past in
     spelled_by word n plain (subst (AllDigits 10) whole all) (is ∙ ap (digits_value 10) whole) small
 
 -- one more digit was read

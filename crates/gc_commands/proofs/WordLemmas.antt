@@ -1,8 +1,7 @@
 -- The words of a line, and the line of words.
-use Rattle.std.proofs.Common.{◌≡◌, ◌==◌, ℕ, suc, ◌+◌, ◌<◌, ◌≤◌, Bool, true, false, cond, not, nat_lt, List, [], ◌∷◌, ◌++◌, length, take, drop, get_or, refl, sym, ap, ◌∙◌, arith, Option, None, Some, Bor, length-take-le, take-append-drop}
+use Rattle.std.proofs.Common.{◌≡◌, ◌==◌, ℕ, ◌+◌, ◌<◌, ◌≤◌, Bool, true, false, cond, not, nat_lt, List, [], ◌∷◌, ◌++◌, length, take, drop, get_or, refl, sym, ap, ◌∙◌, arith, Option, None, Some, Bor, length-take-le, take-append-drop}
 use Rattle.std.specs.List.{slice_split, onto_first, position, position_or_len}
 use Rattle.std.specs.Option.{option_map_or}
-use Rattle.std.specs.Str.{IsAscii}
 use Rattle.std.proofs.lemmas.Bool.{eqb-true, ltb-false}
 use Rattle.std.proofs.lemmas.List.{drop_more, get_or-take, get_or_default}
 use Rattle.std.proofs.lemmas.List.Quantifiers.{position-Some}
@@ -25,7 +24,7 @@ one_word [] e = refl
 one_word (b ∷ line) e = one_word_by b line (b == 32) (one_word line) e
 
 -- a line, cut at its first space
-pub cut_at : (line : List ℕ) (k : ℕ) → position (λ b. b == 32) line ≡ Some k → line ≡ take k line ++ 32 ∷ drop (k + 1) line
+cut_at : (line : List ℕ) (k : ℕ) → position (λ b. b == 32) line ≡ Some k → line ≡ take k line ++ 32 ∷ drop (k + 1) line
 cut_at line k found =
     let first = position-Some (λ b. b == 32) line k 0 found in
     let space : get_or line k 0 ≡ 32 = eqb-true (get_or line k 0) 32 first.1 in
@@ -51,11 +50,3 @@ pub no_space_found : (line : List ℕ) → position (λ b. b == 32) line ≡ Non
 no_space_found line none =
     let k = position_or_len (λ b. b == 32) line in
     one_word line (unfound_by k (length line) (nat_lt k (length line)) refl (prefix_len-le-length (λ b. not (b == 32)) line) none)
-
--- what stands behind the first space of ASCII is ASCII
-pub ascii_behind : (name rest : List ℕ) → IsAscii (name ++ 32 ∷ rest) → IsAscii rest
-ascii_behind [] rest all = λ i. all (suc i)
-ascii_behind (b ∷ name) rest all = ascii_behind name rest (λ i. all (suc i))
-
-pub space_at : (line : List ℕ) (k : ℕ) → position (λ b. b == 32) line ≡ Some k → (k < length line) × (get_or line k 0 ≡ 32)
-space_at line k found = let first = position-Some (λ b. b == 32) line k 0 found in (first.0, eqb-true (get_or line k 0) 32 first.1)

@@ -15,7 +15,7 @@ use crate::command::{Command, FieldWord, FieldWords, ValueWord, ValueWords};
 use crate::numbers::type_of;
 use crate::parts::read_end;
 use crate::types::{field_of, value_of};
-use crate::words::Words;
+use crate::words::{Words, behind};
 use std::alloc::{AllocError, Global};
 
 /// The words behind `struct`: `final`, a supertype, and any number of fields.
@@ -80,7 +80,7 @@ fn read_final(words: &mut Words) -> bool
         → ¬ (words.old ≡ codes "final" ∷ others))) }
 {
     match words.ahead().next() {
-        Some("final") => {
+        Some(b"final") => {
             let _final = words.next();
             true
         }
@@ -95,7 +95,7 @@ fn read_supertype(words: &mut Words) -> Option<Option<u32>>
     let Some(word) = words.ahead().next() else {
         return Some(None);
     };
-    let Some(index) = word.strip_prefix("sub:") else {
+    let Some(index) = behind(word, b"sub:") else {
         return Some(None);
     };
     let _supertype = words.next();

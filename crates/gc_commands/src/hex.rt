@@ -11,7 +11,7 @@ use std::alloc::{AllocError, Global};
 
 /// The number that a word of so many digits spells, highest first, at most 32 of them; None where the word has another
 /// length, or what is no digit in lower case.
-pub fn hex_number(word: &str, digits: usize) -> Option<u128>
+pub fn hex_number(word: &[u8], digits: usize) -> Option<u128>
     requires { digits ≤ 32 }
     ensures { Reads (λ n. n < 16 ^ digits) (hex_digits digits) word.now result }
 {
@@ -19,7 +19,7 @@ pub fn hex_number(word: &str, digits: usize) -> Option<u128>
         return None;
     }
     let mut number: u128 = 0;
-    for digit in word.as_bytes() {
+    for digit in word {
         let value = hex_value(*digit)?;
         number = number * 16 + u128::from(value);
     }
@@ -28,13 +28,13 @@ pub fn hex_number(word: &str, digits: usize) -> Option<u128>
 
 /// The bytes that a word spells: pairs of digits, or a dash for no bytes; None where it spells none. Takes memory for the
 /// bytes, and time linear in the word.
-pub fn bytes_of(alloc: Global, word: &str) -> Result<Option<Vec<u8>>, AllocError>
+pub fn bytes_of(alloc: Global, word: &[u8]) -> Result<Option<Vec<u8>>, AllocError>
     ensures { IfOk result (λ bytes. Reads (AllByRecursion (λ b. b < 2 ^ 8)) bytes_text word.now (option_map (λ bs. bs.items) bytes)) }
 {
     match word {
-        "-" => Ok(Some(Vec::new(alloc))),
-        "" => Ok(None),
-        _ => pairs_of(alloc, word.as_bytes()),
+        b"-" => Ok(Some(Vec::new(alloc))),
+        b"" => Ok(None),
+        _ => pairs_of(alloc, word),
     }
 }
 

@@ -3,10 +3,7 @@
 //! A line is cut into words, its first word says which form of command it is, and each form has a
 //! function that reads the words behind it, and answers `Bad` where they spell no command of the form.
 
-ghost use Rattle.std.specs.Prelude.{◌≡◌, ◌==◌, [], false, IfOk, MatchOption};
-ghost use Rattle.std.specs.List.{slice_split};
-ghost use Rattle.std.specs.Option.{option_map_or};
-ghost use Rattle.std.specs.Str.{IsUtf8};
+ghost use Rattle.std.specs.Prelude.{◌≡◌, false, IfOk};
 ghost use Rattle.gc_commands.specs.declared.command.Command.{Command};
 ghost use Rattle.gc_commands.specs.Forms.{has_list, unless_bad};
 ghost use Rattle.gc_commands.specs.Kept.{operands_kept};
@@ -55,22 +52,7 @@ pub fn parse_line_into(
     let Some(form) = form_of(name) else {
         return Ok(Command::Bad);
     };
-    let Some(mut words) = words_behind(behind) else {
-        return Ok(Command::Bad);
-    };
-    read_form(alloc, room, form, &mut words)
-}
-
-/// The words behind the first one of a line; None where they are no text.
-#[inline(always)]
-fn words_behind(behind: Option<&[u8]>) -> Option<Words>
-    ensures { MatchOption result (MatchOption behind.entry ⊥ (λ rest. ¬ IsUtf8 rest.now))
-        (λ words. words ≡ option_map_or (λ rest. slice_split (λ b. b == 32) rest.now) behind.entry []) }
-{
-    match behind {
-        Some(bytes) => Some(Words::of(str::from_utf8(bytes).ok()?)),
-        None => Some(Words::none()),
-    }
+    read_form(alloc, room, form, &mut Words::behind_name(behind))
 }
 
 /// The command of a form that the words behind its name spell, and `Bad` where they spell none. Only a list takes memory.

@@ -6,19 +6,20 @@ ghost use Rattle.gc_commands.specs.Words.{field_text, heap_text, storage_text, v
 
 use crate::command::{FieldWord, HeapWord, StorageWord, ValueWord};
 use crate::numbers::type_of;
+use crate::words::behind;
 
 /// The field that a word spells.
-pub(crate) fn field_of(word: &str) -> Option<FieldWord>
+pub(crate) fn field_of(word: &[u8]) -> Option<FieldWord>
     ensures { Reads FitsField field_text word.now result }
 {
-    if let Some(name) = word.strip_prefix("m:") {
+    if let Some(name) = behind(word, b"m:") {
         let storage = storage_of(name)?;
         return Some(FieldWord {
             mutable: true,
             storage,
         });
     }
-    let storage = storage_of(word.strip_prefix("c:")?)?;
+    let storage = storage_of(behind(word, b"c:")?)?;
     Some(FieldWord {
         mutable: false,
         storage,
@@ -26,35 +27,35 @@ pub(crate) fn field_of(word: &str) -> Option<FieldWord>
 }
 
 /// The storage type that a word spells.
-fn storage_of(word: &str) -> Option<StorageWord>
+fn storage_of(word: &[u8]) -> Option<StorageWord>
     ensures { Reads FitsStorage storage_text word.now result }
 {
     match word {
-        "i8" => Some(StorageWord::I8),
-        "i16" => Some(StorageWord::I16),
+        b"i8" => Some(StorageWord::I8),
+        b"i16" => Some(StorageWord::I16),
         _ => Some(StorageWord::Value(value_of(word)?)),
     }
 }
 
 /// The value type that a word spells.
-pub(crate) fn value_of(word: &str) -> Option<ValueWord>
+pub(crate) fn value_of(word: &[u8]) -> Option<ValueWord>
     ensures { Reads FitsValue value_type_text word.now result }
 {
     match word {
-        "i32" => Some(ValueWord::I32),
-        "i64" => Some(ValueWord::I64),
-        "f32" => Some(ValueWord::F32),
-        "f64" => Some(ValueWord::F64),
-        "v128" => Some(ValueWord::V128),
+        b"i32" => Some(ValueWord::I32),
+        b"i64" => Some(ValueWord::I64),
+        b"f32" => Some(ValueWord::F32),
+        b"f64" => Some(ValueWord::F64),
+        b"v128" => Some(ValueWord::V128),
         _ => reference_of(word),
     }
 }
 
 /// The type of references that a word spells: with a mark behind it where none of them is null.
-fn reference_of(word: &str) -> Option<ValueWord>
+fn reference_of(word: &[u8]) -> Option<ValueWord>
     ensures { Reads FitsReference value_type_text word.now result }
 {
-    match word.strip_suffix('!') {
+    match word.strip_suffix(b"!") {
         Some(name) => Some(ValueWord::Ref {
             heap: heap_of(name)?,
             nullable: false,
@@ -67,28 +68,28 @@ fn reference_of(word: &str) -> Option<ValueWord>
 }
 
 /// The heap type that a word spells.
-fn heap_of(word: &str) -> Option<HeapWord>
+fn heap_of(word: &[u8]) -> Option<HeapWord>
     ensures { Reads FitsHeap heap_text word.now result }
 {
     match word {
-        "any" => Some(HeapWord::Any),
-        "eq" => Some(HeapWord::Eq),
-        "i31" => Some(HeapWord::I31),
-        "struct" => Some(HeapWord::Struct),
-        "array" => Some(HeapWord::Array),
-        "none" => Some(HeapWord::None),
-        "extern" => Some(HeapWord::Extern),
-        "noextern" => Some(HeapWord::NoExtern),
-        "exn" => Some(HeapWord::Exn),
-        "noexn" => Some(HeapWord::NoExn),
+        b"any" => Some(HeapWord::Any),
+        b"eq" => Some(HeapWord::Eq),
+        b"i31" => Some(HeapWord::I31),
+        b"struct" => Some(HeapWord::Struct),
+        b"array" => Some(HeapWord::Array),
+        b"none" => Some(HeapWord::None),
+        b"extern" => Some(HeapWord::Extern),
+        b"noextern" => Some(HeapWord::NoExtern),
+        b"exn" => Some(HeapWord::Exn),
+        b"noexn" => Some(HeapWord::NoExn),
         _ => named_of(word),
     }
 }
 
 /// The heap type that `t` and the index of a type spell.
-fn named_of(word: &str) -> Option<HeapWord>
+fn named_of(word: &[u8]) -> Option<HeapWord>
     ensures { Reads FitsNamed heap_text word.now result }
 {
-    let t = type_of(word.strip_prefix('t')?)?;
+    let t = type_of(behind(word, b"t")?)?;
     Some(HeapWord::Named(t))
 }

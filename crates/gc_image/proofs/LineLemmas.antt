@@ -1,14 +1,12 @@
--- A line and its words: words that are joined by spaces are cut again, and are text.
-use Rattle.std.proofs.Common.{◌≡◌, ◌==◌, ℕ, suc, zero, ◌<◌, List, [], ◌∷◌, ◌++◌, length, Option, None, Some, Result, Ok, Err, IfOk, refl, sym, ap, subst, ◌∙◌, arith, false}
+-- A line and its words: words that are joined by spaces are cut again.
+use Rattle.std.proofs.Common.{◌≡◌, ◌==◌, ℕ, ◌<◌, List, [], ◌∷◌, ◌++◌, length, Option, None, Some, Result, Ok, Err, IfOk, refl, sym, ap, ◌∙◌, arith, false}
 use Rattle.std.specs.List.{All, join_with_byte, slice_split}
-use Rattle.std.specs.Str.{IsAscii, IsUtf8}
 use Rattle.std.proofs.lemmas.Bool.{ne_eqb}
 use Rattle.std.proofs.lemmas.List.Elements.{All-nil, All-cons}
-use Rattle.std.proofs.lemmas.List.Splits.{join_with_byte-slice_split, slice_split_at, slice_split_none}
-use Rattle.std.proofs.lemmas.Str.{IsAscii-append, IsUtf8-from_ascii}
+use Rattle.std.proofs.lemmas.List.Splits.{join_with_byte-slice_split}
 use Rattle.gc_commands.specs.Reading.{Reads}
 use Rattle.gc_commands.proofs.GraphicLemmas.{AreWords, IsWord}
-use Rattle.gc_commands.proofs.LineLemmas.{ascii_joined, cut_joined}
+use Rattle.gc_commands.proofs.LineLemmas.{cut_joined}
 
 -- words hold no line feed
 pub no_feed_word : (word : List ℕ) → IsWord word → All (λ b. (b == 10) ≡ false) word
@@ -34,19 +32,14 @@ module _ {A : Type 0} (Fits : A → Type 0) (words : A → List (List ℕ)) (fit
   words_cut : (line : List ℕ) (x : A) → Fits x → line ≡ joined x → slice_split (λ b. b == 32) line ≡ words x
   words_cut line x fits e = ap (slice_split (λ b. b == 32)) e ∙ cut_joined (words x) (fit x fits) (some x)
 
-  -- a line that is no text spells nothing
-  pub no_text : (line : List ℕ) → ¬ IsUtf8 line → (x : A) → Fits x → line ≡ joined x → ⊥
-  no_text line bad x fits e = bad (IsUtf8-from_ascii line (subst IsAscii (sym e) (ascii_joined (words x) (fit x fits))))
+  pub line_read : (line : List ℕ) (seen : List (List ℕ)) (r : Option A) → seen ≡ slice_split (λ b. b == 32) line → Reads Fits words seen r → Reads Fits joined line r
+  line_read line seen None cut read = λ x fits e. read x fits (cut ∙ words_cut line x fits e)
+  line_read line seen (Some x) cut read = (read.0, sym (join_with_byte-slice_split 32 line) ∙ ap (join_with_byte 32) (sym cut ∙ read.1))
 
-  pub line_read : (line text : List ℕ) (seen : List (List ℕ)) (r : Option A) → text ≡ line → seen ≡ slice_split (λ b. b == 32) text → Reads Fits words seen r → Reads Fits joined line r
-  line_read line text seen None same cut read = λ x fits e. read x fits (cut ∙ ap (slice_split (λ b. b == 32)) same ∙ words_cut line x fits e)
-  line_read line text seen (Some x) same cut read =
-      (read.0, sym (join_with_byte-slice_split 32 line) ∙ ap (join_with_byte 32) (ap (slice_split (λ b. b == 32)) (sym same) ∙ sym cut ∙ read.1))
-
-  pub ok_line_read : {E : Type 0} (line text : List ℕ) (seen : List (List ℕ)) (r : Result (Option A) E) → text ≡ line → seen ≡ slice_split (λ b. b == 32) text
+  pub ok_line_read : {E : Type 0} (line : List ℕ) (seen : List (List ℕ)) (r : Result (Option A) E) → seen ≡ slice_split (λ b. b == 32) line
       → IfOk r (λ o. Reads Fits words seen o) → IfOk r (λ o. Reads Fits joined line o)
-  ok_line_read line text seen (Ok o) same cut read = line_read line text seen o same cut read
-  ok_line_read line text seen (Err e) same cut read = tt
+  ok_line_read line seen (Ok o) cut read = line_read line seen o cut read
+  ok_line_read line seen (Err e) cut read = tt
 
   -- no two have one spelling, where no two have the same words
   pub one_line : ((x y : A) → Fits x → Fits y → words x ≡ words y → x ≡ y) → (x y : A) → Fits x → Fits y → joined x ≡ joined y → x ≡ y

@@ -1,5 +1,5 @@
 -- The words of objects and globals: what they are made of, that no two have the same, and which words are none's.
-use Rattle.std.proofs.Common.{◌≡◌, ℕ, ◌<◌, ◌^◌, List, [], ◌∷◌, ◌++◌, map, length, drop, get_or, codes, refl, sym, ap, ◌∙◌, arith}
+use Rattle.std.proofs.Common.{◌≡◌, ℕ, ◌<◌, ◌≤◌, ◌^◌, List, [], ◌∷◌, ◌++◌, map, length, drop, get_or, codes, refl, sym, ap, ◌∙◌, arith}
 use Rattle.std.specs.Fmt.{decimal, signed_decimal}
 use Rattle.std.specs.List.{AllByRecursion}
 use Rattle.std.proofs.lemmas.Fmt.{decimal_injective, signed_decimal_injective}
@@ -170,6 +170,12 @@ no_bytes words rest is none x fits e = apart _ _ (λ a. omega arith) (sym is ∙
 pub no_exn : (words rest : List (List ℕ)) → words ≡ codes "e" ∷ rest → ((p : ℕ × Tag × List ImageValue) → FitExn p → rest ≡ exn_words p → ⊥) → (x : ObjectLine) → FitsObject x → words ≡ object_words x → ⊥
 no_exn words rest is none (object.Exn ty tag values) fits e = none (ty, tag, values) fits (ap (drop 1) (sym is ∙ e))
 no_exn words rest is none x fits e = apart _ _ (λ a. omega arith) (sym is ∙ e)
+
+-- a word of one letter
+pub one_letter : (word : List ℕ) (b : ℕ) → 1 ≤ length word → length word < 2 → get_or word 0 0 ≡ b → word ≡ b ∷ []
+one_letter [] b some short is = absurd (omega arith)
+one_letter (x ∷ []) b some short is = ap (λ y. y ∷ []) is
+one_letter (x ∷ y ∷ word) b some short is = absurd (omega arith)
 
 -- a type and the instance of a tag, behind which no number stands, are no tag
 pub no_index : (words one two : List (List ℕ)) (ty instance : ℕ) → words ≡ decimal ty ∷ one → one ≡ decimal instance ∷ two

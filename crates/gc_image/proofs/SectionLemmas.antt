@@ -3,22 +3,18 @@ use Rattle.std.proofs.Common.{◌≡◌, ◌≢◌, ℕ, ◌<◌, ◌^◌, Bool,
 use Rattle.std.specs.Bool.{MatchBool}
 use Rattle.std.specs.Fmt.{decimal}
 use Rattle.std.specs.List.{AllByRecursion, join_with_byte}
-use Rattle.std.specs.Str.{IsAscii, IsUtf8}
 use Rattle.std.proofs.lemmas.Bool.{false≢true}
 use Rattle.std.proofs.lemmas.Fmt.{decimal_injective}
 use Rattle.std.proofs.lemmas.List.{append_cancel_left}
-use Rattle.std.proofs.lemmas.Str.{IsUtf8-from_ascii}
 use Rattle.gc_commands.specs.declared.command.Command.{Command}
 use Rattle.gc_commands.specs.declared.command.Command.TheVariants as command
 use Rattle.gc_commands.specs.Spelling.{IsDeclaring, operands_of, spelling}
-use Rattle.gc_commands.proofs.GraphicLemmas.{word_decimal, word_text}
 use Rattle.gc_commands.proofs.UniqueLemmas.{one_spelling_of_one}
 use Rattle.gc_image.specs.declared.image.GlobalLine.{GlobalLine}
 use Rattle.gc_image.specs.declared.image.ObjectLine.{ObjectLine}
 use Rattle.gc_image.specs.Parts.{ImageParts}
 use Rattle.gc_image.specs.Reading.{ReadsObjects, ReadsTypes, ended_globals, ended_lines}
 use Rattle.gc_image.specs.Text.{FitsGlobal, FitsImage, FitsObject, FitsImageType, count_text, global_text, global_line_words, object_text, object_words}
-use Rattle.gc_commands.proofs.LineLemmas.{ascii_joined}
 use Rattle.gc_image.proofs.LineLemmas.{one_line}
 use Rattle.gc_image.proofs.ObjectLemmas.{global_fit, global_some, object_fit, object_some, one_global, one_object}
 
@@ -27,14 +23,6 @@ pub head_told : (b : Bool) (lines rest : List (List ℕ)) (line : List ℕ) → 
     → MatchBool b (lines ≡ codes "image 1" ∷ rest) ((others : List (List ℕ)) → ¬ (lines ≡ codes "image 1" ∷ others))
 head_told true lines rest line at told = at ∙ ap (λ l. l ∷ rest) (told.0 refl)
 head_told false lines rest line at told = λ others e. false≢true (told.1 (ap (λ (ls : List (List ℕ)). get_or ls 0 []) (sym at ∙ e)))
-
--- the count of objects is text
-pub count_text_none : (line : List ℕ) → ¬ IsUtf8 line → (n : ℕ) → n < 2 ^ 64 → line ≡ count_text n → ⊥
-count_text_none line bad n fits e =
-    bad (IsUtf8-from_ascii line (subst IsAscii (sym e) (ascii_joined (codes "objects" ∷ decimal n ∷ []) (word_text (codes "objects") refl, (word_decimal n fits, tt)))))
-
-pub count_none : (lines rest : List (List ℕ)) (line : List ℕ) → lines ≡ line ∷ rest → ¬ IsUtf8 line → (n : ℕ) (others : List (List ℕ)) → n < 2 ^ 64 → lines ≡ count_text n ∷ others → ⊥
-count_none lines rest line at bad n others fits e = count_text_none line bad n fits (ap (λ (ls : List (List ℕ)). get_or ls 0 []) (sym at ∙ e))
 
 joined_letter : (b : ℕ) (word : List ℕ) (words : List (List ℕ)) → get_or (join_with_byte 32 ((b ∷ word) ∷ words)) 0 0 ≡ b
 joined_letter b word [] = refl

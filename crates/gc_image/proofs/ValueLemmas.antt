@@ -1,7 +1,6 @@
 -- Words that spell values.
-use Rattle.std.proofs.Common.{◌≡◌, ℕ, ◌<◌, ◌^◌, List, ◌∷◌, ◌++◌, codes, sym, ap, subst, ◌∙◌, arith}
+use Rattle.std.proofs.Common.{◌≡◌, ℕ, List, ◌∷◌, ◌++◌, codes}
 use Rattle.std.specs.Fmt.{decimal}
-use Rattle.gc_commands.specs.Words.{hex_digits}
 use Rattle.gc_image.specs.declared.image.ImageReference.{ImageReference}
 use Rattle.gc_image.specs.declared.image.ImageReference.TheVariants as reference
 use Rattle.gc_image.specs.Text.{FitsImageReference, reference_text}
@@ -12,7 +11,3 @@ pub no_reference : (text : List ℕ) → ((rest : List ℕ) → text ≡ codes "
 no_reference text small object none reference.Null fits e = none e
 no_reference text small object none (reference.Small n) fits e = small (decimal n) e
 no_reference text small object none (reference.Object number) fits e = object (decimal number) e
-
--- a vector
-pub vector_read : (word rest : List ℕ) (bits n : ℕ) → bits ≡ n → word ≡ codes "v128:" ++ rest → n < 16 ^ 32 → rest ≡ hex_digits 32 n → (bits < 2 ^ 128) × (word ≡ codes "v128:" ++ hex_digits 32 bits)
-vector_read word rest bits n same at fits read = (subst (λ m. m < 2 ^ 128) (sym same) (omega arith), at ∙ ap (λ r. codes "v128:" ++ r) (read ∙ ap (hex_digits 32) (sym same)))

@@ -1,10 +1,9 @@
 //! Lines that spell objects and globals.
 
-ghost use Rattle.std.specs.Prelude.{◌≡◌, ◌<◌, ◌^◌, [], IfOk, MatchOption, map};
+ghost use Rattle.std.specs.Prelude.{◌≡◌, ◌<◌, ◌^◌, ◌↔◌, IfOk, IsTrue, codes, map};
 ghost use Rattle.std.specs.Fmt.{decimal};
 ghost use Rattle.std.specs.List.{AllByRecursion};
 ghost use Rattle.std.specs.Option.{option_map};
-ghost use Rattle.std.specs.Str.{IsUtf8};
 ghost use Rattle.gc_commands.specs.Reading.{Reads, ReadsFirst};
 ghost use Rattle.gc_commands.specs.Spelling.{type_count};
 ghost use Rattle.gc_image.specs.Text.{FitsGlobal, FitsObject, FitsImageValue, global_text, global_line_words, object_text, object_words, value_text};
@@ -23,25 +22,14 @@ use std::alloc::{AllocError, Global};
 pub(crate) fn object_of(alloc: Global, line: &[u8]) -> Result<Option<ObjectLine>, AllocError>
     ensures { IfOk result (λ object. Reads FitsObject object_text line.now object) }
 {
-    let Some(text) = text_of(line) else {
-        return Ok(None);
-    };
-    read_object(alloc, &mut Words::of(text))
+    read_object(alloc, &mut Words::of(line))
 }
 
 /// The global that a line spells.
 pub(crate) fn global_of(line: &[u8]) -> Option<GlobalLine>
     ensures { Reads FitsGlobal global_text line.now result }
 {
-    let text = text_of(line)?;
-    read_global(&mut Words::of(text))
-}
-
-/// A line as text; None where it is none.
-pub(crate) fn text_of(line: &[u8]) -> Option<&str>
-    ensures { MatchOption result (¬ IsUtf8 line.now) (λ text. text.now ≡ line.now) }
-{
-    str::from_utf8(line).ok()
+    read_global(&mut Words::of(line))
 }
 
 /// The object that the words spell.
@@ -52,23 +40,23 @@ fn read_object(alloc: Global, words: &mut Words) -> Result<Option<ObjectLine>, A
         return Ok(None);
     };
     match kind {
-        "s" => match read_row(alloc, words)? {
+        b"s" => match read_row(alloc, words)? {
             Some((ty, values)) => Ok(Some(ObjectLine::Struct { ty, values })),
             None => Ok(None),
         },
-        "a" => match read_row(alloc, words)? {
+        b"a" => match read_row(alloc, words)? {
             Some((ty, values)) => Ok(Some(ObjectLine::Array { ty, values })),
             None => Ok(None),
         },
-        "b" => match read_bytes(alloc, words)? {
+        b"b" => match read_bytes(alloc, words)? {
             Some((ty, bytes)) => Ok(Some(ObjectLine::Bytes { ty, bytes })),
             None => Ok(None),
         },
-        "h" => match read_host(words) {
+        b"h" => match read_host(words) {
             Some(number) => Ok(Some(ObjectLine::Host { number })),
             None => Ok(None),
         },
-        "e" => match read_exn(alloc, words)? {
+        b"e" => match read_exn(alloc, words)? {
             Some((ty, tag, values)) => Ok(Some(ObjectLine::Exn { ty, tag, values })),
             None => Ok(None),
         },
@@ -144,10 +132,18 @@ fn read_tagged(words: &mut Words) -> Option<(u32, Tag)>
 fn read_global(words: &mut Words) -> Option<GlobalLine>
     ensures { Reads FitsGlobal global_line_words words.old result }
 {
-    match words.next()? {
-        "global" => read_held(words),
-        _ => None,
+    if is_global(words.next()?) {
+        read_held(words)
+    } else {
+        None
     }
+}
+
+/// Whether a word is the first one of a global's line.
+fn is_global(word: &[u8]) -> bool
+    ensures { IsTrue result ↔ (word.now ≡ codes "global") }
+{
+    matches!(word, b"global")
 }
 
 /// The words behind `global`: an index and a value.

@@ -11,7 +11,8 @@ ghost use Rattle.gc_image.specs.Reading.{ReadsObjects, ReadsTypes, ended_globals
 
 use crate::image::{GlobalLine, ObjectLine};
 use crate::lines::Lines;
-use crate::object_lines::{global_of, object_of, text_of};
+use crate::object_lines::{global_of, object_of};
+use gc_commands::words::behind;
 use gc_commands::{Command, number, parse_line};
 use std::alloc::{AllocError, Global};
 
@@ -73,8 +74,8 @@ fn is_declaring(command: &Command) -> bool
 pub(crate) fn read_count(lines: &mut Lines) -> Option<u64>
     ensures { ReadsFirst (λ n. n < 2 ^ 64) count_text lines.old result lines.new }
 {
-    let text = text_of(lines.next()?)?;
-    number(text.strip_prefix("objects ")?, u64::MAX)
+    let line = lines.next()?;
+    number(behind(line, b"objects ")?, u64::MAX)
 }
 
 /// So many objects. Takes memory as they come, so none for a number alone.

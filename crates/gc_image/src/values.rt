@@ -6,6 +6,7 @@ ghost use Rattle.gc_image.specs.Text.{FitsImageReference, FitsImageValue, refere
 use crate::image::{ImageReference, ImageValue};
 use gc_commands::hex::hex_number;
 use gc_commands::numbers::{number, signed_number, small_signed_number};
+use gc_commands::words::behind;
 use gc_owner::GcClass;
 use gc_refs::V128;
 
@@ -13,35 +14,46 @@ use gc_refs::V128;
 const MAX_SMALL: u64 = 2_147_483_647;
 
 /// The value that a word spells.
-pub(crate) fn value_of(word: &str) -> Option<ImageValue>
+pub(crate) fn value_of(word: &[u8]) -> Option<ImageValue>
     ensures { Reads FitsImageValue value_text word.now result }
 {
-    let (name, rest) = word.split_once(':')?;
-    match name {
-        "i32" => Some(ImageValue::I32(small_signed_number(rest)?)),
-        "i64" => Some(ImageValue::I64(signed_number(rest)?)),
-        "f32" => Some(ImageValue::F32(hex_number(rest, 8)? as u32)),
-        "f64" => Some(ImageValue::F64(hex_number(rest, 16)? as u64)),
-        "v128" => Some(ImageValue::V128(V128::from(hex_number(rest, 32)?))),
-        "any" => Some(ImageValue::Ref(GcClass::Any, reference_of(rest)?)),
-        "extern" => Some(ImageValue::Ref(GcClass::Extern, reference_of(rest)?)),
-        "exn" => Some(ImageValue::Ref(GcClass::Exn, reference_of(rest)?)),
-        _ => None,
+    if let Some(digits) = behind(word, b"i32:") {
+        return Some(ImageValue::I32(small_signed_number(digits)?));
     }
+    if let Some(digits) = behind(word, b"i64:") {
+        return Some(ImageValue::I64(signed_number(digits)?));
+    }
+    if let Some(digits) = behind(word, b"f32:") {
+        return Some(ImageValue::F32(hex_number(digits, 8)? as u32));
+    }
+    if let Some(digits) = behind(word, b"f64:") {
+        return Some(ImageValue::F64(hex_number(digits, 16)? as u64));
+    }
+    if let Some(digits) = behind(word, b"v128:") {
+        return Some(ImageValue::V128(V128::from(hex_number(digits, 32)?)));
+    }
+    if let Some(text) = behind(word, b"any:") {
+        return Some(ImageValue::Ref(GcClass::Any, reference_of(text)?));
+    }
+    if let Some(text) = behind(word, b"extern:") {
+        return Some(ImageValue::Ref(GcClass::Extern, reference_of(text)?));
+    }
+    let text = behind(word, b"exn:")?;
+    Some(ImageValue::Ref(GcClass::Exn, reference_of(text)?))
 }
 
 /// The reference that the text behind a class and its colon spells.
-fn reference_of(text: &str) -> Option<ImageReference>
+fn reference_of(text: &[u8]) -> Option<ImageReference>
     ensures { Reads FitsImageReference reference_text text.now result }
 {
-    if let Some(digits) = text.strip_prefix("i31:") {
+    if let Some(digits) = behind(text, b"i31:") {
         return Some(ImageReference::Small(number(digits, MAX_SMALL)? as u32));
     }
-    if let Some(digits) = text.strip_prefix('#') {
+    if let Some(digits) = behind(text, b"#") {
         return Some(ImageReference::Object(number(digits, u64::MAX)? as usize));
     }
     match text {
-        "null" => Some(ImageReference::Null),
+        b"null" => Some(ImageReference::Null),
         _ => None,
     }
 }

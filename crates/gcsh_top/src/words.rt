@@ -1,6 +1,7 @@
 //! The words of the program.
 
-ghost use Rattle.std.specs.Prelude.{◌≡◌, [], ◌∷◌, MatchOption, map, string_bytes};
+ghost use Rattle.std.specs.Prelude.{◌≡◌, ◌≤◌, [], ◌∷◌, MatchOption, map, string_bytes};
+ghost use Rattle.std.specs.Fmt.{decimal};
 ghost use Rattle.gc_commands.specs.Reading.{Reads};
 ghost use Rattle.gcsh_top.specs.Words.{FitsTask, IsForm, collector_word, task_words};
 
@@ -81,8 +82,8 @@ fn parse_heap(collector: &str, first: &str, most: &str, task: Task) -> Option<Fo
         (IsForm (collector.now ∷ first.now ∷ most.now ∷ task_words task)) }
 {
     let collector = parse_collector(collector)?;
-    let most = number(most, MAX_PAGES)?;
-    let first = number(first, most)?;
+    let most = number_of(most, MAX_PAGES)?;
+    let first = number_of(first, most)?;
     Some(Form {
         collector,
         first: first as u32,
@@ -111,11 +112,11 @@ fn parse_task(name: &str, count: &str) -> Option<Task>
 {
     match name {
         "churn" => {
-            let rounds = number(count, u64::from(MAX_ROUNDS))?;
+            let rounds = number_of(count, u64::from(MAX_ROUNDS))?;
             Some(Task::Churn(rounds as u32))
         }
         "lists" => {
-            let inserts = number(count, u64::from(MAX_INSERTS))?;
+            let inserts = number_of(count, u64::from(MAX_INSERTS))?;
             Some(Task::Lists(inserts as u32))
         }
         _ => None,
@@ -132,4 +133,11 @@ fn parse_collector(word: &str) -> Option<Collector>
         "null" => Some(Collector::Null),
         _ => None,
     }
+}
+
+/// The number that a word spells; None where it spells none that is at most `most`.
+fn number_of(word: &str, most: u64) -> Option<u64>
+    ensures { Reads (λ n. n ≤ most) decimal word.now result }
+{
+    number(word.as_bytes(), most)
 }

@@ -5,6 +5,6 @@ use Rattle.gc_commands.proofs.numbers.number.Given as goal
 abbrev pub invariant-loop-byte : goal.invariant-loop-byte
 invariant-loop-byte l = record {
   small : l.n < 2 ^ 64;
-  digits : AllDigits 10 (take l.byte-index l.byte-items);
-  value : l.n ≡ digits_value 10 (take l.byte-index l.byte-items);
+  digits : AllDigits 10 (take l.byte-index l.word);
+  value : l.n ≡ digits_value 10 (take l.byte-index l.word);
 }

@@ -1,5 +1,4 @@
-use Rattle.std.proofs.Common.{◌≡◌, None, codes, arith, rules}
-use Rattle.std.proofs.lemmas.Str.Pattern.{strip_prefix_char}
+use Rattle.std.proofs.Common.{◌≡◌, codes, rules}
 use Rattle.gc_commands.proofs.OperandLemmas.{operand_read}
 use Rattle.gc_commands.proofs.operands.operand_of.Goals as goal
 
@@ -8,5 +7,5 @@ returns-in_default-word c =
     let any : c.args.word.now ≡ codes "any:null" → ⊥ = search rules in
     let outer : c.args.word.now ≡ codes "extern:null" → ⊥ = search rules in
     let exn : c.args.word.now ≡ codes "exn:null" → ⊥ = search rules in
-    operand_read c.args.word.now c.float_of.result (strip_prefix_char 114 c.args.word.now None c.in_default.ensures.cases (omega arith)) c.in_default-strip_prefix.ensures.cases c.in_default-strip_prefix-2.ensures.cases any outer exn
+    operand_read c.args.word.now c.float_of.result c.in_default.ensures c.in_default-behind.ensures c.in_default-behind-2.ensures any outer exn
     c.float_of.ensures

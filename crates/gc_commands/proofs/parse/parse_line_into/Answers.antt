@@ -1,20 +1,17 @@
 use Rattle.std.proofs.Common.{◌∷◌, sym, ap, ◌∙◌}
 use Rattle.gc_commands.specs.Forms.{name_of}
-use Rattle.gc_commands.proofs.LineLemmas.{no_text_behind, words_of_spelled}
+use Rattle.gc_commands.proofs.LineLemmas.{words_of_spelled}
 use Rattle.gc_commands.proofs.LineReadLemmas.{if_ok, line_read}
 use Rattle.gc_commands.proofs.ObjectLemmas.{no_name}
 use Rattle.gc_commands.proofs.WordLemmas.{words_left}
 use Rattle.gc_commands.proofs.parse.parse_line_into.Goals as goal
 
 pub returns-in_default : goal.returns-in_default
-returns-in_default c = λ command spells. no_name _ c.cut_name.result.0.now _ c.cut_name.ensures.words c.in_default.ensures command spells.fits (words_of_spelled c.args.line.now command spells)
-
-pub returns-in_default-words_behind : goal.returns-in_default-words_behind
-returns-in_default-words_behind c = no_text_behind c.args.line.now c.cut_name.result.0.now c.cut_name.result.1 c.in_default-words_behind.ensures c.cut_name.ensures.behind
+returns-in_default c = λ command spells. no_name _ c.cut_name.result.0.now _ c.cut_name.ensures c.in_default.ensures command spells.fits (words_of_spelled c.args.line.now command spells)
 
 pub returns : goal.returns
 returns c =
     if_ok c.read_form.result
-    (line_read c.args.line.now c.in-Some.form c.in-Some-words_behind.words c.if-line-gt-MAX_LINE.false
-    (c.cut_name.ensures.words ∙ ap (λ w. w ∷ words_left c.cut_name.result.1) c.in-Some.ensures.1 ∙ ap (λ ws. name_of c.in-Some.form ∷ ws) (sym c.in-Some-words_behind.ensures)))
+    (line_read c.args.line.now c.in-Some.form c.behind_name.result c.if-line-gt-MAX_LINE.false
+    (c.cut_name.ensures ∙ ap (λ w. w ∷ words_left c.cut_name.result.1) c.in-Some.ensures.1 ∙ ap (λ ws. name_of c.in-Some.form ∷ ws) (sym c.behind_name.ensures)))
     c.read_form.ensures

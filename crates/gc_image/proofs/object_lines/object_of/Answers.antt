@@ -1,10 +1,7 @@
 use Rattle.gc_image.specs.Text.{FitsObject, object_words}
-use Rattle.gc_image.proofs.LineLemmas.{no_text, ok_line_read}
+use Rattle.gc_image.proofs.LineLemmas.{ok_line_read}
 use Rattle.gc_image.proofs.ObjectLemmas.{object_fit, object_some}
 use Rattle.gc_image.proofs.object_lines.object_of.Goals as goal
 
-pub returns-in_default : goal.returns-in_default
-returns-in_default c = no_text FitsObject object_words object_fit object_some c.args.line.now c.in_default.ensures
-
 pub returns : goal.returns
-returns c = ok_line_read FitsObject object_words object_fit object_some c.args.line.now c.in-Some.text.now c.of.result c.read_object.result c.in-Some.ensures c.of.ensures c.read_object.ensures
+returns c = ok_line_read FitsObject object_words object_fit object_some c.args.line.now c.of.result c.read_object.result c.of.ensures c.read_object.ensures
