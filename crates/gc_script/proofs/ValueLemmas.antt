@@ -1,5 +1,5 @@
 -- What a value that a register or an operand holds is found to be.
-use Rattle.std.proofs.Common.{◌≡◌, inl, inr, ℕ, Option, Some, None, true, sym, ap, ◌∙◌, refl, subst, arith}
+use Rattle.std.proofs.Common.{◌≡◌, inl, inr, ℕ, Bool, Option, Some, None, true, false, sym, ap, ◌∙◌, refl, subst, arith}
 use Rattle.std.specs.Prelude.{Result, Ok, Err, is_ok}
 use Rattle.std.proofs.lemmas.Option.{none-some}
 use Rattle.gc_types.specs.declared.kind.Layouts.{Layouts}
@@ -9,14 +9,14 @@ use Rattle.gc_model.specs.Values as values
 use Rattle.gc_model.specs.Table.{Table}
 use Rattle.gc_model.specs.Live.{rooted}
 use Rattle.gc_model.specs.Stores.{StoreView}
-use Rattle.gc_model.specs.Holds.{HoldsTable}
+use Rattle.gc_model.specs.Holds.{HoldsTable, Placing}
 use Rattle.gc_values.specs.declared.root.GcRootIndex.{GcRootIndex}
 use Rattle.gc_values.specs.declared.root.RawValue.{RawValue}
 use Rattle.gc_values.specs.declared.root.RawValue.TheVariants as raw
 use Rattle.gc_values.specs.declared.root.RootFault.{RootFault}
 use Rattle.gc_values.specs.declared.root.RootFault.TheVariants as fault
 use Rattle.gc_values.specs.declared.root.RootedObject.{RootedObject}
-use Rattle.gc_store.specs.Roots.{NamesSerial, NamesReference, NamesNothing, TellsReference, is_of_store, handle_of}
+use Rattle.gc_store.specs.Roots.{NamesSerial, NamesReference, NamesNothing, TellsReference, TellsWord, is_of_store, handle_of}
 use Rattle.gc_store.specs.Values.{RawStands}
 use Rattle.gc_values.specs.RawValues.{raw_handle}
 use Rattle.gc_values.specs.declared.root.RootSlot.TheVariants as root_slot
@@ -81,38 +81,52 @@ names_gone layouts s t holds handle serial names is_gone r (inr named) =
     let same : root_slot.Scoped names.push.index ≡ root_slot.Owned (owned_id named.number) = ap (λ (h : GcRootIndex). h.slot) (sym names.is ∙ named.names) in
     absurd (cc same)
 
-module _ (layouts : Layouts) (s : StoreView ℕ) (t : Table ℕ) (holds : HoldsTable layouts s t) (handle : GcRootIndex) (answer : Result RootedObject RootFault)
-    (live : (r : Reference) → NamesReference s t handle r → TellsReference t r answer) (nothing : is_of_store s handle ≡ true → NamesNothing s t handle → answer ≡ Err fault.Unrooted) where
+-- what tells of each live handle is an answer, and no fault
+object_told : (t : Table ℕ) (r : Reference) (x : Result RootedObject RootFault) → TellsReference t r x → is_ok x ≡ true
+object_told t r (Ok object) tells = refl
+object_told t r (Err e) tells = absurd tells
+
+pub word_told : (place : Placing) (r : Reference) (x : Result ℕ RootFault) → TellsWord place r x → is_ok x ≡ true
+word_told place r (Ok word) tells = refl
+word_told place r (Err e) tells = absurd tells
+
+module _ (layouts : Layouts) (s : StoreView ℕ) (t : Table ℕ) (holds : HoldsTable layouts s t) (handle : GcRootIndex) (answer : Bool)
+    (live : (r : Reference) → NamesReference s t handle r → answer ≡ true) (nothing : is_of_store s handle ≡ true → NamesNothing s t handle → answer ≡ false) where
   -- a root is gone, or it stands for what it names
-  found_root : (class class' : GcClass) (serial : ℕ) (o : Option Reference) → class ≡ class' → NamesSerial s t handle serial → rooted t serial ≡ o → IsFoundLive s t (raw.Ref class (Some handle)) (given_root class' o) (is_ok answer)
+  found_root : (class class' : GcClass) (serial : ℕ) (o : Option Reference) → class ≡ class' → NamesSerial s t handle serial → rooted t serial ≡ o → IsFoundLive s t (raw.Ref class (Some handle)) (given_root class' o) answer
   found_root class class' serial None same names at =
-      subst (λ (x : Result RootedObject RootFault). IsFoundLive s t (raw.Ref class (Some handle)) gone (is_ok x)) (sym (nothing (names-store s t handle serial names) (names_gone layouts s t holds handle serial names at))) refl
-  found_root class class' serial (Some r) same names at = by answer (live r named)
+      subst (IsFoundLive s t (raw.Ref class (Some handle)) gone) (sym (nothing (names-store s t handle serial names) (names_gone layouts s t holds handle serial names at))) refl
+  found_root class class' serial (Some r) same names at =
+      subst (IsFoundLive s t (raw.Ref class (Some handle)) (given_root class' (Some r))) (sym (live r named))
+      (values.reference class r, (ap (λ (y : GcClass). is (values.reference y r)) (sym same), record { root = r; named = named; is = refl }))
     where
       named : NamesReference s t handle r
       named = inl (record { serial = serial; names = names; live = at })
 
-      by : (x : Result RootedObject RootFault) → TellsReference t r x → IsFoundLive s t (raw.Ref class (Some handle)) (given_root class' (Some r)) (is_ok x)
-      by (Ok object) tells = (values.reference class r, (ap (λ (y : GcClass). is (values.reference y r)) (sym same), record { root = r; named = named; is = refl }))
-      by (Err e) tells = absurd tells
-
-  -- so of a handle, by what the store answers
-  pub found_handle : (r : RawValue) (held : Option Held) → raw_handle r ≡ Some handle → RegisterStands s t (Some r) held → IsFoundLive s t r (given_held t held) (is_ok answer)
-  found_handle (raw.I32 n) held is_handle stands = absurd (none-some handle is_handle)
-  found_handle (raw.I64 n) held is_handle stands = absurd (none-some handle is_handle)
-  found_handle (raw.F32 n) held is_handle stands = absurd (none-some handle is_handle)
-  found_handle (raw.F64 n) held is_handle stands = absurd (none-some handle is_handle)
-  found_handle (raw.V128 n) held is_handle stands = absurd (none-some handle is_handle)
-  found_handle (raw.Func f) held is_handle stands = absurd (none-some handle is_handle)
-  found_handle (raw.Cont cont) held is_handle stands = absurd (none-some handle is_handle)
-  found_handle (raw.Ref class None) held is_handle stands = absurd (none-some handle is_handle)
-  found_handle (raw.Ref class (Some h)) None is_handle stands = absurd stands
-  found_handle (raw.Ref class (Some h)) (Some (number v)) is_handle stands = absurd stands
-  found_handle (raw.Ref class (Some h)) (Some (reference c None)) is_handle stands = absurd stands
-  found_handle (raw.Ref class (Some h)) (Some (reference c (Some serial))) is_handle stands =
+  -- so of a handle, by whether the store tells of it
+  pub found_live : (r : RawValue) (held : Option Held) → raw_handle r ≡ Some handle → RegisterStands s t (Some r) held → IsFoundLive s t r (given_held t held) answer
+  found_live (raw.I32 n) held is_handle stands = absurd (none-some handle is_handle)
+  found_live (raw.I64 n) held is_handle stands = absurd (none-some handle is_handle)
+  found_live (raw.F32 n) held is_handle stands = absurd (none-some handle is_handle)
+  found_live (raw.F64 n) held is_handle stands = absurd (none-some handle is_handle)
+  found_live (raw.V128 n) held is_handle stands = absurd (none-some handle is_handle)
+  found_live (raw.Func f) held is_handle stands = absurd (none-some handle is_handle)
+  found_live (raw.Cont cont) held is_handle stands = absurd (none-some handle is_handle)
+  found_live (raw.Ref class None) held is_handle stands = absurd (none-some handle is_handle)
+  found_live (raw.Ref class (Some h)) None is_handle stands = absurd stands
+  found_live (raw.Ref class (Some h)) (Some (number v)) is_handle stands = absurd stands
+  found_live (raw.Ref class (Some h)) (Some (reference c None)) is_handle stands = absurd stands
+  found_live (raw.Ref class (Some h)) (Some (reference c (Some serial))) is_handle stands =
       let same : h ≡ handle = grind (arith, is_handle) in
-      subst (λ (x : GcRootIndex). IsFoundLive s t (raw.Ref class (Some x)) (given_root c (rooted t serial)) (is_ok answer)) (sym same)
+      subst (λ (x : GcRootIndex). IsFoundLive s t (raw.Ref class (Some x)) (given_root c (rooted t serial)) answer) (sym same)
       (found_root class c serial (rooted t serial) stands.0 (subst (λ (x : GcRootIndex). NamesSerial s t x serial) same stands.1) refl)
+
+-- so by what the store answers
+pub found_handle : (layouts : Layouts) (s : StoreView ℕ) (t : Table ℕ) → HoldsTable layouts s t → (handle : GcRootIndex) (answer : Result RootedObject RootFault)
+    → ((r : Reference) → NamesReference s t handle r → TellsReference t r answer) → (is_of_store s handle ≡ true → NamesNothing s t handle → answer ≡ Err fault.Unrooted)
+    → (r : RawValue) (held : Option Held) → raw_handle r ≡ Some handle → RegisterStands s t (Some r) held → IsFoundLive s t r (given_held t held) (is_ok answer)
+found_handle layouts s t holds handle answer live nothing r held =
+    found_live layouts s t holds handle (is_ok answer) (λ q named. object_told t q answer (live q named)) (λ of_store none. ap is_ok (nothing of_store none)) r held
 
 -- a value that is a reference stands as that
 pub slot_stands : (s : StoreView ℕ) (t : Table ℕ) (r : RawValue) (v : Value) (c : GcClass) (h : Option GcRootIndex) → raw_slot r ≡ Some (c, h) → RawStands s t r v → RawStands s t (raw.Ref c h) v

@@ -1,11 +1,14 @@
 //! Which values fit a type.
 
-ghost use Rattle.std.specs.Prelude.{◌≡◌, ℕ, false, Option};
+ghost use Rattle.std.specs.Prelude.{◌≡◌, ℕ, false, List, Option};
+ghost use Rattle.gc_types.specs.declared.value.HeapType.TheVariants as heap;
+ghost use Rattle.gc_types.specs.Subtyping.{supertypes_of};
 ghost use Rattle.gc_model.specs.Fits.{fits_type, fits};
 ghost use Rattle.gc_model.specs.Holds.{HoldsTable};
 ghost use Rattle.gc_model.specs.Table.{Table};
 ghost use Rattle.gc_model.specs.Values.{Value};
 ghost use Rattle.gc_store.specs.Values.{RawStands};
+ghost use Rattle.gc_values.specs.OwnTypes.{own_fits, own_type};
 ghost use Rattle.gc_values.specs.RawValues.{raw_handle};
 ghost use Rattle.gc_values.specs.declared.root.GcRootIndex.{GcRootIndex};
 ghost use Rattle.gc_script.specs.Values.{TellsHandle, is_opaque, number_fits};
@@ -14,7 +17,38 @@ use crate::values::slot_of;
 use gc_heap::GcHeap;
 use gc_model::classes::null_fits;
 use gc_store::{GcClass, RawValue, RootedObject, Store};
-use gc_types::{RefType, StorageType, ValType};
+use gc_types::{HeapType, RefType, StorageType, ValType};
+
+/// Whether an object, as a reference of that class, is one of those that `any` takes: 31-bit numbers, structs and arrays.
+#[inline(always)]
+fn is_any(class: GcClass, object: &RootedObject) -> bool
+    ensures { (supers : List (Option ℕ)) → result ≡ own_fits supers (own_type class object.now) heap.Any }
+{
+    match class {
+        GcClass::Any => matches!(
+            object,
+            RootedObject::I31(_) | RootedObject::Struct(_) | RootedObject::Array(..)
+        ),
+        GcClass::Extern => false,
+        GcClass::Exn => false,
+    }
+}
+
+/// Whether an object, as a reference of that class, fits the type. Of `any` no types are asked.
+#[inline(always)]
+fn object_fits<H: GcHeap>(
+    store: &Store<H, u64>,
+    ty: &RefType,
+    class: GcClass,
+    object: &RootedObject,
+) -> bool
+    ensures { result ≡ own_fits (supertypes_of store.now.types) (own_type class object.now) ty.now.heap_type }
+{
+    match ty.heap_type {
+        HeapType::Any => is_any(class, object),
+        _ => store.object_fits(ty, class, object),
+    }
+}
 
 /// Whether a reference fits the type, by the object that it names: none where it is null.
 #[inline(always)]
@@ -28,7 +62,7 @@ fn reference_fits<H: GcHeap>(
         → TellsHandle store.now t handle object.now → result ≡ fits_type t.types t.objects (ValType.Ref ty.now) v }
 {
     match object {
-        Some(object) => store.object_fits(ty, class, object),
+        Some(object) => object_fits(store, ty, class, object),
         None => null_fits(ty, class),
     }
 }

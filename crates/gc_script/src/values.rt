@@ -144,15 +144,19 @@ fn named_by<H: GcHeap>(
     }
 }
 
-/// Whether a value is a number, null, or the handle of a live root.
+/// Whether what a register holds is a number, null, or the handle of a live root. No object is looked at.
 #[inline(always)]
 pub(crate) fn is_live<H: GcHeap>(store: &Store<H, u64>, value: &RawValue) -> bool
-    ensures live { IsTrue result → NamesLive ℕ H.KIND store.now value.now }
-    ensures plain { IsTrue result → is_opaque value.now ≡ false }
-    ensures found { (t : Table ℕ) (held : Option Held) → HoldsTable H.KIND store.now t → RegisterStands store.now t (Some value.now) held
+    ensures { (t : Table ℕ) (held : Option Held) → HoldsTable H.KIND store.now t → RegisterStands store.now t (Some value.now) held
         → IsFoundLive store.now t value.now (given_held t held) result }
 {
-    named_by(store, value).is_ok()
+    match value.handle() {
+        Some(handle) => match store.word(handle) {
+            Ok(_) => true,
+            Err(_) => false,
+        },
+        None => true,
+    }
 }
 
 /// Whether a value may go into a field or an element of that type: `Unrooted` where its root is gone, then

@@ -15,13 +15,13 @@ use Rattle.gc_script.proofs.runner.Runner.compare.Goals.{After-index_eq}
 first_found : (g : given.Over) (c : After-index_eq g) (s : State) → HoldsState g.H.GcHeap.KIND c.args.store.now c.args.self.now s → IsFoundLive c.args.store.now s.table c.in-Some.value (given_register s c.args.r) true
 first_found g c s holds =
     let slot : register_at c.args.self.now.registers c.args.r ≡ Some c.in-Some.value = ap (λ (x : RunnerView). register_at x.registers c.args.r) (sym c.self.view_is) ∙ sym c.in-Some.ensures in
-    c.if-not-is_live.ensures.found s.table (s.registers c.args.r) (holds_table holds.table) (subst (λ (o : Option RawValue). RegisterStands c.args.store.now s.table o (s.registers c.args.r)) slot (holds.registers c.args.r))
+    c.if-not-is_live.ensures s.table (s.registers c.args.r) (holds_table holds.table) (subst (λ (o : Option RawValue). RegisterStands c.args.store.now s.table o (s.registers c.args.r)) slot (holds.registers c.args.r))
 
 -- and so is what the second one holds
 second_found : (g : given.Over) (c : After-index_eq g) (s : State) → HoldsState g.H.GcHeap.KIND c.args.store.now c.args.self.now s → IsFoundLive c.args.store.now s.table c.in-Some-get.value (given_register s c.args.q) true
 second_found g c s holds =
     let slot : register_at c.args.self.now.registers c.args.q ≡ Some c.in-Some-get.value = ap (λ (x : RunnerView). register_at x.registers c.args.q) (sym c.self.view_is) ∙ sym c.in-Some-get.ensures in
-    c.if-not-is_live-2.ensures.found s.table (s.registers c.args.q) (holds_table holds.table) (subst (λ (o : Option RawValue). RegisterStands c.args.store.now s.table o (s.registers c.args.q)) slot (holds.registers c.args.q))
+    c.if-not-is_live-2.ensures s.table (s.registers c.args.q) (holds_table holds.table) (subst (λ (o : Option RawValue). RegisterStands c.args.store.now s.table o (s.registers c.args.q)) slot (holds.registers c.args.q))
 
 pub returns-in-Ok : goal.returns-in-Ok
 returns-in-Ok g c = record {

@@ -15,7 +15,7 @@ use Rattle.gc_script.proofs.runner.Runner.host_number.Goals.{After-host_data}
 found : (g : given.Over) (c : After-host_data g) (s : State) → HoldsState g.H.GcHeap.KIND c.args.store.now c.args.self.now s → IsFoundLive c.args.store.now s.table c.in-Some.value (given_register s c.args.r) true
 found g c s holds =
     let slot : register_at c.args.self.now.registers c.args.r ≡ Some c.in-Some.value = ap (λ (x : RunnerView). register_at x.registers c.args.r) (sym c.self.view_is) ∙ sym c.in-Some.ensures in
-    c.if-not-is_live.ensures.found s.table (s.registers c.args.r) (holds_table holds.table) (subst (λ (o : Option RawValue). RegisterStands c.args.store.now s.table o (s.registers c.args.r)) slot (holds.registers c.args.r))
+    c.if-not-is_live.ensures s.table (s.registers c.args.r) (holds_table holds.table) (subst (λ (o : Option RawValue). RegisterStands c.args.store.now s.table o (s.registers c.args.r)) slot (holds.registers c.args.r))
 
 pub returns-in-Ok-Some : goal.returns-in-Ok-Some
 returns-in-Ok-Some g c = record {

@@ -11,7 +11,7 @@ use Rattle.gc_script.proofs.runner.Runner.reference_in.Goals.{After-slot_of}
 -- what the register holds is found
 value_found : (g : given.Over) (c : After-slot_of g) (s : State) → HoldsState g.H.GcHeap.KIND c.args.store.now c.args.self.now s → IsFoundLive c.args.store.now s.table c.in-Some.value (given_register s c.args.r) true
 value_found g c s holds =
-    c.if-not-is_live.ensures.found s.table (s.registers c.args.r) (holds_table holds.table)
+    c.if-not-is_live.ensures s.table (s.registers c.args.r) (holds_table holds.table)
     (register_held g.H.GcHeap.KIND c.args.store.now c.args.self.now _ s c.args.r (Some c.in-Some.value) c.self.view_is c.in-Some.ensures holds)
 
 pub returns-in-Some-slot_of : goal.returns-in-Some-slot_of
