@@ -86,7 +86,8 @@ impl Round {
         ensures { IfOk result (λ command. command ≡ Command.New 2 0 (named_by self.now.seed ∷ Operand.I32 (pos self.now.number) ∷ [])) }
     {
         let mut values = room.take_room(alloc);
-        values.extend_from_slice(&[self.named(), Operand::I32(self.number as i32)])?;
+        values.push(self.named())?;
+        values.push(Operand::I32(self.number as i32))?;
         Ok(Command::New {
             d: MADE,
             t: 0,
