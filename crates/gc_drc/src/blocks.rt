@@ -29,13 +29,16 @@ pub(crate) fn block_of(size: u32) -> u64
     round_up(u64::from(size))
 }
 
-/// An object of up to so many bytes is made 0 by 16 bytes at each end.
-const MOST_BY_ENDS: u32 = 40;
+/// The bytes of two words of 64 bits.
+const PAIR: usize = 16;
 
-/// One of up to so many by 32.
-const MOST_BY_LONG_ENDS: u32 = 72;
+/// Up to this size a pair at each end makes the data of an object 0.
+const MOST_BY_TWO_PAIRS: u32 = COUNTING_COUNT + 2 * PAIR as u32;
 
-/// Makes the 16 bytes at an offset 0.
+/// Up to this size two pairs at each end do.
+const MOST_BY_FOUR_PAIRS: u32 = COUNTING_COUNT + 4 * PAIR as u32;
+
+/// Makes the two words at an offset 0.
 #[inline(always)]
 fn zero_pair(memory: &mut HeapMemory, at: usize)
     requires { at + 16 ≤ length memory.old }
@@ -47,8 +50,8 @@ fn zero_pair(memory: &mut HeapMemory, at: usize)
     memory.write_u64(at + 8, 0);
 }
 
-/// Makes the bytes of a new object behind its header 0. In a small object by some bytes at each end, which
-/// may overlap: a fill of a number of bytes that varies is a call.
+/// Makes the bytes of a new object behind its header 0. In a small object by pairs at each end, which may
+/// overlap: a fill of a number of bytes that varies is a call.
 #[inline(always)]
 fn zero_data(memory: &mut HeapMemory, place: u32, size: u32)
     requires least { 28 ≤ size }
@@ -56,18 +59,18 @@ fn zero_data(memory: &mut HeapMemory, place: u32, size: u32)
     ensures bytes { memory.new ≡ put_bytes memory.old (place + 8) (replicate (size - 8) 0) }
 {
     let at = place as usize + COUNTING_COUNT as usize;
-    if size > MOST_BY_LONG_ENDS {
+    if size > MOST_BY_FOUR_PAIRS {
         memory.fill_zero(at, (size - COUNTING_COUNT) as usize);
         return;
     }
     let end = place as usize + size as usize;
     zero_pair(memory, at);
-    zero_pair(memory, end - 16);
-    if size <= MOST_BY_ENDS {
+    zero_pair(memory, end - PAIR);
+    if size <= MOST_BY_TWO_PAIRS {
         return;
     }
-    zero_pair(memory, at + 16);
-    zero_pair(memory, end - 32);
+    zero_pair(memory, at + PAIR);
+    zero_pair(memory, end - 2 * PAIR);
 }
 
 /// Writes the words and the zeroed data of a new object of `size` bytes at a place.

@@ -4,7 +4,7 @@ use Rattle.std.specs.Coded.{Coded, code_by, coded×}
 use Rattle.gc_free.specs.Memory.{Memory, memory_code}
 use Rattle.gc_free.specs.Space.{Space, space_code}
 
--- the space that it stands for, and the memory that it takes for it
+-- the space that it stands for, and the memory that its free runs take; the room of runs that wait isn't told
 pub record FreeListView : Type 0 where
   pub space : Space
   pub memory : Memory

@@ -15,11 +15,11 @@ use std::alloc::{AllocError, Global};
 use std::marker::Model;
 use std::num::NonZeroU32;
 
-/// So many runs may wait.
+/// So many runs may wait: few enough to look through one by one.
 const MOST_WAITING: usize = 16;
 
-/// How many of the runs begin at a place or before it, where they stand by rising place (that it is these
-/// is not proved). Soon found where the place lies near the last ones.
+/// The index at which a run that begins at a place stands among those that wait, by rising place; only that it
+/// is an index is proved. Searched from the end, near which most lie that a collection gives back.
 fn rank_in(waiting: &[Run], place: u32) -> usize
     ensures { result ≤ length waiting.now }
 {
@@ -31,8 +31,8 @@ fn rank_in(waiting: &[Run], place: u32) -> usize
 }
 
 /// Whether the second run begins where the first ends.
-fn ends_at(first: Run, second: Run) -> bool
-    ensures { result ≡ true → end_of first ≡ second.place }
+fn is_followed_by(first: Run, second: Run) -> bool
+    ensures { result ≡ true ↔ (end_of first ≡ second.place) }
 {
     first.place <= second.place && second.place - first.place == first.length
 }
@@ -64,7 +64,7 @@ fn join_behind(list: &mut FreeList, waiting: &mut Vec<Run>, at: usize, block: Ru
     if at == waiting.len() {
         return block;
     }
-    if !ends_at(block, waiting[at]) {
+    if !is_followed_by(block, waiting[at]) {
         return block;
     }
     let behind = waiting.remove(at);
@@ -90,7 +90,7 @@ fn join_before(list: &mut FreeList, waiting: &mut Vec<Run>, at: usize, block: Ru
         return false;
     }
     let before = waiting[at - 1];
-    if !ends_at(before, block) {
+    if !is_followed_by(before, block) {
         return false;
     }
     list.join_held(before, block);
@@ -101,7 +101,7 @@ fn join_before(list: &mut FreeList, waiting: &mut Vec<Run>, at: usize, block: Ru
     true
 }
 
-/// Puts a run in at an index, where there is room. Behind all others nothing moves.
+/// As `put_at`; behind all others by a push, which moves nothing.
 fn add_at(waiting: &mut Vec<Run>, at: usize, run: Run)
     requires within { at ≤ length waiting.old.items }
     requires room { length waiting.old.items < vec_capacity waiting.old }
@@ -118,7 +118,7 @@ fn add_at(waiting: &mut Vec<Run>, at: usize, run: Run)
     }
 }
 
-/// A block waits as a run of its own. Where so many wait that there is no room, the list takes the first.
+/// A block waits as a run of its own. Where the most wait already, the list takes the first.
 fn put(list: &mut FreeList, waiting: &mut Vec<Run>, at: usize, block: Run)
     requires within { at ≤ length waiting.old.items }
     requires can_wait { CanWait (block ∷ waiting.old.items) list.old.space }
@@ -157,12 +157,14 @@ fn give_later(list: &mut FreeList, waiting: &mut Vec<Run>, block: Run)
 }
 
 /// A free list to which blocks are given back in runs. A collection gives many blocks back one behind the
-/// other, and most of them touch one that was given back shortly before; so they wait, those that touch as
-/// one, and the list takes each run at once. Any call that asks for runs or changes them has the list take
-/// them first, but a question about a place behind all that waits. While a run is current, nothing waits.
+/// other, and many touch one that was given back shortly before; so they wait, those that touch as one, and
+/// the list takes each run at once. A search for room and a rise of the capacity have the list take them
+/// first, and so has a question about a place, but for one behind all that waits. While a run is current,
+/// nothing waits.
 ///
-/// Contracts see what they see of a `FreeList` to which each block is given back at once. The calls are
-/// those of `FreeList`; how many steps a search takes isn't told.
+/// Contracts see what they see of a `FreeList` to which each block is given back at once. The calls have the
+/// names and clauses of those of `FreeList`; none lists the free runs, and how many steps a search takes isn't
+/// told.
 #[derive(Drop)]
 pub struct BatchedFreeList {
     list: FreeList,
@@ -254,8 +256,9 @@ impl BatchedFreeList {
         self.list.alloc_fast(alloc_size)
     }
 
-    /// As `FreeList::dealloc_fast`, with its condition. Takes no memory, and constant time where the block
-    /// touches one that waits (not proved).
+    /// As `FreeList::dealloc_fast`, with its condition. The free runs take no memory for it, nor do those that
+    /// wait (not proved). While no run is current it takes constant time where the block touches a run that
+    /// waits, or where fewer than the most wait (not proved).
     pub fn dealloc_fast(&mut self, index: NonZeroU32, alloc_size: u32)
         requires { Contains self.old.space.held (run (non_zero_u32_get index) alloc_size) }
         ensures given { self.new.space ≡ give (run (non_zero_u32_get index) alloc_size) self.old.space }

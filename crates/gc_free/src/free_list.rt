@@ -276,8 +276,10 @@ impl FreeList {
         }
     }
 
-    /// Two held blocks that touch, the lower first, are held as one from now on. No run is current.
-    /// Takes no memory, and constant time.
+    /// Two held blocks that touch, the lower first, are held as one from now on. Takes no memory; constant
+    /// time (not proved).
+    ///
+    /// Condition: both are held, the first ends where the second begins, and no run is current.
     #[inline(always)]
     pub(crate) fn join_held(&mut self, first: Run, second: Run)
         requires first { Contains self.old.space.held first }

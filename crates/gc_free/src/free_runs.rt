@@ -133,6 +133,7 @@ impl FreeRuns {
         ensures grown { self.old.room ≤ self.new.room }
         ensures ok { OnOk result (room ≤ self.new.room) }
     {
+        // Most calls find room: then neither vector is asked to grow.
         if room <= self.by_place.capacity() && room <= self.by_length.capacity() {
             return Ok(());
         }

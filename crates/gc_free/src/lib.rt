@@ -9,6 +9,8 @@
 //! are what the held blocks leave, always maximal. At most one of them is current, and blocks are
 //! taken from its front while they fit. Giving a block back takes no memory.
 //!
+//! A `BatchedFreeList` is a free list to which blocks are given back in runs.
+//!
 //! A caller gives back only what it holds. Contracts see a free list as a `View`: its capacity, held
 //! blocks and current run, which are its `Space`, and its memory. The laws of spaces are in `laws`.
 #![tactic(auto)]

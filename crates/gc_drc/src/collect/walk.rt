@@ -59,7 +59,7 @@ impl CountedSpace {
     }
 
     /// The first held block from a place on, or the end of the managed places where there is none. Blocks
-    /// may begin at that place. The free list may take what waits in it, which nothing shows.
+    /// may begin at that place. The free list may take what waits in it, which no clause shows.
     #[inline(always)]
     pub(crate) fn next_place(&mut self, from: u32) -> u32
         requires { CanWalk self.old from }
