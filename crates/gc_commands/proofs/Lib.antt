@@ -16,3 +16,4 @@ pub mod LineReadLemmas
 pub mod UniqueLemmas
 pub mod SpelledLemmas
 pub mod EachLemmas
+pub mod NewLineLemmas

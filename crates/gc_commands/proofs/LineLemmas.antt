@@ -28,7 +28,7 @@ words_fit c fits = let of = has_form c fits in words_fit_by c fits of.0 of.1
 some_words : (c : Command) → FitsCommand c → 0 < length (words_of c)
 some_words c fits = let of = has_form c fits in let counted = ap length (words_by_form of.0 c of.1) in omega arith
 
-no_space : (word : List ℕ) → IsWord word → All (λ b. (b == 32) ≡ false) word
+pub no_space : (word : List ℕ) → IsWord word → All (λ b. (b == 32) ≡ false) word
 no_space [] all = All-nil (λ b. (b == 32) ≡ false)
 no_space (b ∷ word) all = All-cons (λ c. (c == 32) ≡ false) b word (ne_eqb b 32 (λ space. let above = all.0.0 in omega arith)) (no_space word all.1)
 

@@ -1,5 +1,6 @@
 -- The parts that the words behind a command's first word spell, where several forms share them.
-use Rattle.std.specs.Prelude.{◌≡◌, ◌≢◌, ℕ, ◌<◌, ◌^◌, Bool, List, [], ◌∷◌, ◌++◌, Option, None, Some, IfSome, slice_index}
+use Rattle.std.specs.Prelude.{◌≡◌, ◌≢◌, ℕ, ◌<◌, ◌^◌, Bool, true, false, List, [], ◌∷◌, ◌++◌, Option, None, Some, IfSome, map, slice_index}
+use Rattle.std.specs.List.{AllByRecursion}
 use Rattle.std.specs.Fmt.{decimal}
 use Rattle.gc_commands.specs.declared.command.Operand.{Operand}
 use Rattle.gc_commands.specs.Spelling.{FitsOperand, declared_words, into_words, supertype_words, type_count}
@@ -47,6 +48,11 @@ FitTarget p = (p.0 < 2 ^ 16) × (p.1 < type_count)
 abbrev pub ReadsTarget : List (List ℕ) → Option (ℕ × ℕ) → List (List ℕ) → Type 0
 ReadsTarget words None rest = (p : ℕ × ℕ) (others : List (List ℕ)) → FitTarget p → ¬ (words ≡ decimal p.0 ∷ decimal p.1 ∷ others)
 ReadsTarget words (Some p) rest = FitTarget p × (words ≡ decimal p.0 ∷ decimal p.1 ∷ rest)
+
+-- Whether all words spell operands: then those are in the list.
+abbrev pub ReadsOperands : List (List ℕ) → Bool → List Operand → Type 0
+ReadsOperands words true list = AllByRecursion FitsOperand list × (words ≡ map operand_text list)
+ReadsOperands words false list = (vs : List Operand) → AllByRecursion FitsOperand vs → ¬ (words ≡ map operand_text vs)
 
 -- the first letter of the first word
 abbrev pub first_letter : List (List ℕ) → ℕ

@@ -1,10 +1,10 @@
 //! The commands of a script.
 
-ghost use Rattle.std.specs.Prelude.{◌≡◌, []};
+ghost use Rattle.std.specs.Prelude.{◌≡◌, [], ◌∷◌, ◌++◌, OnErr, OnOk};
 
 use crate::reply::ByteText;
 use gc_refs::V128;
-use std::alloc::Global;
+use std::alloc::{AllocError, Global};
 use std::marker::Model;
 use std::mem;
 
@@ -339,13 +339,6 @@ impl Operands {
         }
     }
 
-    /// These operands. Takes no memory.
-    pub fn from_vec(values: Vec<Operand>) -> Operands
-        ensures { result ≡ values.items }
-    {
-        Operands { values }
-    }
-
     /// The operands.
     pub fn as_slice(&self) -> &[Operand]
         ensures { result.now ≡ self.now }
@@ -353,21 +346,30 @@ impl Operands {
         self.values.as_slice()
     }
 
-    /// The vector that it was made from. Takes no memory.
-    pub fn into_vec(self) -> Vec<Operand>
-        ensures { result.items ≡ self }
+    /// Takes all operands off. Takes no memory, and keeps the room that they had.
+    #[inline(always)]
+    pub fn clear(&mut self)
+        ensures { self.new ≡ [] }
     {
-        self.values
+        self.values.clear();
     }
 
-    /// The vector that it was made from, with nothing in it, so that its room is used again. No operands are left. Takes no memory.
+    /// Puts an operand behind the others. Takes memory only where there is no room for it.
     #[inline(always)]
-    pub fn take_room(&mut self, alloc: Global) -> Vec<Operand>
-        ensures room { result.items ≡ [] }
+    pub fn push(&mut self, value: Operand) -> Result<(), AllocError>
+        ensures pushed { OnOk result (self.new ≡ self.old ++ value ∷ []) }
+        ensures same { OnErr result (self.new ≡ self.old) }
+    {
+        self.values.push(value)?;
+        Ok(())
+    }
+
+    /// The operands, with the room that they have; none are left. Takes no memory.
+    #[inline(always)]
+    pub fn take(&mut self, alloc: Global) -> Operands
+        ensures taken { result ≡ self.old }
         ensures left { self.new ≡ [] }
     {
-        let mut values = mem::replace(self, Operands::new(alloc)).into_vec();
-        values.clear();
-        values
+        mem::replace(self, Operands::new(alloc))
     }
 }

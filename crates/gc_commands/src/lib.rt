@@ -13,6 +13,7 @@ mod declarations;
 pub mod form;
 pub mod hex;
 pub mod lone;
+pub mod new_line;
 pub mod numbers;
 mod objects;
 mod operands;
@@ -32,6 +33,7 @@ pub use command::{
 pub use form::Form;
 pub use hex::{push_bytes, push_hex};
 pub use lone::{Lone, lone_of};
+pub use new_line::new_of;
 pub use numbers::number;
 pub use parse::{MAX_LINE, keep_operands, parse_line, parse_line_into, spelling_is_unique};
 pub use reply::{ByteText, Refusal, Reply, ReplyValue};

@@ -11,7 +11,7 @@ ghost use Rattle.std.specs.Prelude.{◌≡◌, ℕ, ◌<◌, ◌^◌, List, [], 
 ghost use Rattle.std.specs.Fmt.{decimal};
 ghost use Rattle.std.specs.List.{AllByRecursion};
 ghost use Rattle.std.specs.Option.{option_map};
-ghost use Rattle.gc_commands.specs.Parts.{FitPlace, FitRegisterAndNumber, FitRegisterAndWide, FitRegisters, FitWrite, ReadsTarget, number_words, pair_words};
+ghost use Rattle.gc_commands.specs.Parts.{FitPlace, FitRegisterAndNumber, FitRegisterAndWide, FitRegisters, FitWrite, ReadsOperands, ReadsTarget, number_words, pair_words};
 ghost use Rattle.gc_commands.specs.Parts.{place_words, write_words};
 ghost use Rattle.gc_commands.specs.Reading.{Reads, ReadsFirst};
 ghost use Rattle.gc_commands.specs.Spelling.{FitsOperand, into_words, type_count};
@@ -174,20 +174,31 @@ pub(crate) fn read_target(words: &mut Words) -> Option<(u16, u32)>
     Some((d, t))
 }
 
+/// Puts the operands that all words spell into a list, in place of those that it has, and answers whether they spell some.
+pub(crate) fn fill_operands(list: &mut Operands, words: &mut Words) -> Result<bool, AllocError>
+    ensures { IfOk result (λ all. ReadsOperands words.old all list.new) }
+{
+    list.clear();
+    while let Some(word) = words.next() {
+        let Some(value) = operand_of(word) else {
+            return Ok(false);
+        };
+        list.push(value)?;
+    }
+    Ok(true)
+}
+
 /// The operands that all words spell, in the list that was kept, where it has room for them.
 pub(crate) fn read_operands(
     alloc: Global,
     room: &mut Operands,
     words: &mut Words,
-) -> Result<Option<Vec<Operand>>, AllocError>
-    ensures { IfOk result (λ values. Reads (AllByRecursion FitsOperand) (map operand_text) words.old (option_map (λ vs. vs.items) values)) }
+) -> Result<Option<Operands>, AllocError>
+    ensures { IfOk result (λ values. Reads (AllByRecursion FitsOperand) (map operand_text) words.old values) }
 {
-    let mut values = room.take_room(alloc);
-    while let Some(word) = words.next() {
-        let Some(value) = operand_of(word) else {
-            return Ok(None);
-        };
-        values.push(value)?;
+    if fill_operands(room, words)? {
+        Ok(Some(room.take(alloc)))
+    } else {
+        Ok(None)
     }
-    Ok(Some(values))
 }
