@@ -35,7 +35,7 @@ pub use cutter::{LineCutter, pieces_give_lines};
 pub use ending::{Ending, is_quiet};
 pub use gc_commands::{
     ByteText, Command, DONE_LINE, FieldWord, FieldWords, HeapWord, Lone, Operand, Operands,
-    Refusal, Reply, ReplyValue, StorageWord, ValueWord, fixed_line, keep_operands, lone_of,
+    Refusal, Reply, ReplyValue, StorageWord, ValueWord, fixed_line, keep_operands, lone_of, new_of,
     parse_line, parse_line_into, push_reply, refusal_line, reply_text,
 };
 pub use runner::{RunError, Runner};

@@ -138,9 +138,10 @@ impl Runner {
         )
     }
 
-    /// Makes a struct of type `t`, and puts it into register `d`.
+    /// Makes a struct of type `t` with the values of these operands, and puts it into register `d`, as `run_one` does for
+    /// `new`, and answers how that ended.
     #[inline(always)]
-    pub(crate) fn make_struct<H: GcHeap, L: ResourceLimiter>(
+    pub fn make_struct<H: GcHeap, L: ResourceLimiter>(
         &mut self,
         store: &mut Store<H, u64>,
         limiter: &mut L,

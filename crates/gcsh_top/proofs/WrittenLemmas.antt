@@ -15,7 +15,7 @@ use Rattle.gc_script.specs.Shapes.{is_collection}
 use Rattle.gc_script.specs.Slots.{RunnerView}
 use Rattle.gc_script.specs.State.{State, HoldsState}
 use Rattle.gcsh_top.specs.Ends.{TookPart}
-use Rattle.gcsh_top.specs.Runs.{BrokeOff, RanLine, not_run, not_written}
+use Rattle.gcsh_top.specs.Runs.{BrokeOff, RanLine, RunsLine, not_run, not_written}
 use Rattle.gcsh_top.specs.Written.{WroteAnswer}
 use Rattle.gcsh_top.specs.declared.run.LineFault.{LineFault}
 
@@ -51,3 +51,26 @@ line_broke layouts counter limits limits' line command old store before runner h
 line_broke layouts counter limits limits' line command old store before runner held held' (Ok answer) (Err fault) is runs wrote = λ s holds. not_written is (runs s holds) wrote
 line_broke layouts counter limits limits' line command old store before runner held held' (Err e) (Ok done) is runs wrote = tt
 line_broke layouts counter limits limits' line command old store before runner held held' (Err e) (Err fault) is runs wrote = λ s holds. not_run is (runs s holds) wrote
+
+-- what running a line leaves, by what each answer leaves, and back
+module _ (layouts : Layouts) (counter : Option ℕ) (limits limits' : Limits) (line : List ℕ) (old store : StoreView ℕ) (before runner : RunnerView) (held held' : Option (List ℕ)) where
+  abbrev Runs : Result (Unit {0}) LineFault → Type 0
+  Runs r = (s : State) → HoldsState layouts old before s → RunsLine layouts counter limits limits' s line store runner held held' r
+
+  abbrev RanIt : Type 0
+  RanIt = (s : State) → HoldsState layouts old before s → RanLine layouts counter limits limits' s line store runner held held'
+
+  abbrev BrokeIt : Type 0
+  BrokeIt = (s : State) → HoldsState layouts old before s → BrokeOff layouts counter limits s line store runner held held'
+
+  pub runs_line : (r : Result (Unit {0}) LineFault) → OnOk r RanIt → OnErr r BrokeIt → Runs r
+  runs_line (Ok done) ran broke = ran
+  runs_line (Err fault) ran broke = broke
+
+  pub line_runs : (r : Result (Unit {0}) LineFault) → Runs r → OnOk r RanIt
+  line_runs (Ok done) runs = runs
+  line_runs (Err fault) runs = tt
+
+  pub line_breaks : (r : Result (Unit {0}) LineFault) → Runs r → OnErr r BrokeIt
+  line_breaks (Ok done) runs = tt
+  line_breaks (Err fault) runs = runs

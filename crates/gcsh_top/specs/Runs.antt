@@ -1,5 +1,5 @@
 -- What running lines leaves.
-use Rattle.std.specs.Prelude.{◌≡◌, true, ℕ, List, [], ◌∷◌, ◌++◌, ◌⊎◌, Option, Some, None, codes}
+use Rattle.std.specs.Prelude.{◌≡◌, true, ℕ, List, [], ◌∷◌, ◌++◌, ◌⊎◌, Option, Some, None, Result, Ok, Err, codes}
 use Rattle.std.specs.Io.KnownBytes.{Appends, Keeps}
 use Rattle.gc_types.specs.declared.kind.Layouts.{Layouts}
 use Rattle.gc_model.specs.Allocation.{Limits}
@@ -16,6 +16,7 @@ use Rattle.gc_policy.specs.Accounts.{HoldsAccount, no_account}
 use Rattle.gc_owner.specs.Limiters.{fresh_limits}
 use Rattle.gc_script.specs.Run.{Ran, WantsMemory}
 use Rattle.gc_script.specs.Session.{Session, SessionFrom, reply_line}
+use Rattle.gcsh_top.specs.declared.run.LineFault.{LineFault}
 use Rattle.gcsh_top.specs.declared.words.Form.{Form}
 use Rattle.gc_script.specs.Cutting.{IsCut, KeptLine, kept_of}
 use Rattle.gcsh_top.specs.Ends.{TookPart}
@@ -60,6 +61,11 @@ pub data BrokeOff (layouts : Layouts) (counter : Option ℕ) (limits : Limits) (
       → BrokeOff layouts counter limits s line store runner held held'
   not_written : {limits' : Limits} {command : Command} {answer : Reply} → IsCommandOf line command → Ran layouts counter limits limits' s command answer store runner → TookPart held held' (reply_line answer)
       → BrokeOff layouts counter limits s line store runner held held'
+
+-- what running a line leaves, by the answer
+abbrev pub RunsLine : Layouts → Option ℕ → Limits → Limits → State → List ℕ → StoreView ℕ → RunnerView → Option (List ℕ) → Option (List ℕ) → Result (Unit {0}) LineFault → Type 0
+RunsLine layouts counter limits limits' s line store runner held held' (Ok done) = RanLine layouts counter limits limits' s line store runner held held'
+RunsLine layouts counter limits limits' s line store runner held held' (Err fault) = BrokeOff layouts counter limits s line store runner held held'
 
 -- the lines of the input were run and replied to up to one that broke off
 pub record StoppedLines (layouts : Layouts) (counter : Option ℕ) (limits : Limits) (s : State) (input : List ℕ) (store : StoreView ℕ) (runner : RunnerView) (held held' : Option (List ℕ)) : Type 0 where

@@ -85,13 +85,13 @@ impl Round {
         requires { self.now.number ≤ max_rounds }
         ensures { IfOk result (λ command. command ≡ Command.New 2 0 (named_by self.now.seed ∷ Operand.I32 (pos self.now.number) ∷ [])) }
     {
-        let mut values = room.take_room(alloc);
-        values.push(self.named())?;
-        values.push(Operand::I32(self.number as i32))?;
+        room.clear();
+        room.push(self.named())?;
+        room.push(Operand::I32(self.number as i32))?;
         Ok(Command::New {
             d: MADE,
             t: 0,
-            values: Operands::from_vec(values),
+            values: room.take(alloc),
         })
     }
 }

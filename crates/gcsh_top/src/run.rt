@@ -4,7 +4,7 @@ ghost use Rattle.std.specs.Prelude.{◌≡◌, ◌≤◌, ◌⊎◌, ◌++◌, �
 ghost use Rattle.gc_commands.specs.Spelling.{IsCommandOf};
 ghost use Rattle.gc_script.specs.Cutting.{IsUnfinished, has_feed, kept_of};
 ghost use Rattle.gcsh_top.specs.Ends.{TookPart};
-ghost use Rattle.gcsh_top.specs.Runs.{BrokeOff, RanLine, RanLines, RanPiece, RanSome, StoppedPiece};
+ghost use Rattle.gcsh_top.specs.Runs.{BrokeOff, RanLine, RanLines, RanPiece, RanSome, RunsLine, StoppedPiece};
 ghost use Rattle.gcsh_top.specs.Written.{WroteAnswer};
 ghost use Rattle.gcsh_top.specs.Statuses.{status_of};
 ghost use Rattle.gc_model.specs.Allocation.{Limits, Rose};
@@ -21,7 +21,7 @@ use crate::write::write_all;
 use gc_heap::GcHeap;
 use gc_script::{
     Command, DONE_LINE, Ending, LineCutter, Operands, Refusal, Reply, RunError, Runner, fixed_line,
-    is_quiet, keep_operands, lone_of, parse_line_into, push_reply, refusal_line,
+    is_quiet, keep_operands, lone_of, new_of, parse_line_into, push_reply, refusal_line,
 };
 use gc_store::{ResourceLimiter, Store};
 use std::alloc::{AllocError, Global};
@@ -173,6 +173,38 @@ fn run_line<H: GcHeap, L: ResourceLimiter, K: Sink>(
     if let Some(lone) = lone_of(line) {
         return write_ending(sink, runner.run_lone(store, lone));
     }
+    // The same for `new`, whose operands are in the list that is kept.
+    let Ok(made) = new_of(&mut room.operands, line) else {
+        return Err(LineFault::Memory);
+    };
+    match made {
+        Some((d, t)) => {
+            let operands = room.operands.as_slice();
+            let ending = runner.make_struct(store, limiter, d, t, operands);
+            write_ending(sink, ending)
+        }
+        None => run_read(alloc, runner, store, limiter, line, room, sink),
+    }
+}
+
+/// Runs a line by the command that is read from it, and writes its reply.
+// A function of its own: else a line that is told by its bytes would clear the rooms of a command.
+fn run_read<H: GcHeap, L: ResourceLimiter, K: Sink>(
+    alloc: Global,
+    runner: &mut Runner,
+    store: &mut Store<H, u64>,
+    limiter: &mut L,
+    line: &[u8],
+    room: &mut LineRoom,
+    sink: &mut K,
+) -> Result<(), LineFault>
+    ensures runs { (s : State) → HoldsState H.KIND store.old runner.old s
+        → RunsLine H.KIND store.old.alloc_counter (L.limits limiter.old) (L.limits limiter.new) s line.now store.new runner.new
+        (K.tells sink.old).held (K.tells sink.new).held result }
+    ensures failed { IsErrOf result LineFault.Sink → Rose (K.tells sink.old).faults (K.tells sink.new).faults }
+    ensures faults { (K.tells sink.old).faults ≤ (K.tells sink.new).faults }
+    ensures same { IsSameStore store.old store.new }
+{
     let Ok(command) = parse_line_into(alloc, &mut room.operands, line) else {
         return Err(LineFault::Memory);
     };
