@@ -12,7 +12,7 @@ def lines(*parts):
 
 def objects(count):
     """So many structs, each of which names the one before it, all under one global; no scoped root is left."""
-    return lines("struct m:any\nstruct m:any m:i32\narray m:i32\nexn i32\n", "enter\nnew 1 0 any:null\n", "new 1 0 r1\n" * (count - 1), "gset 0 1\nleave\n")
+    return lines("struct m:any\nstruct m:any m:i32\narray m:i32\nexn i32\narray m:i8\n", "enter\nnew 1 0 any:null\n", "new 1 0 r1\n" * (count - 1), "gset 0 1\nleave\n")
 
 
 def roots(count):
@@ -53,15 +53,20 @@ GROWN = {
         "new": ("enter\n", "new 2 1 any:null i32:7\n"),
         "newexn": ("enter\n", "newexn 2 3 0 i32:7\n"),
         "newarr": ("enter\n", "newarr 2 2 4 i32:7\n"),
+        "fixed": ("enter\n", "fixed 2 2 i32:7 i32:8 i32:9 i32:10\n"),
+        "bytes, made": ("enter\n", "bytes 2 4 0708090a\n"),
         "field": ("new 1 1 any:null i32:0\n", "field 1 1\n"),
         "setf": ("new 1 1 any:null i32:0\n", "setf 1 1 i32:7\n"),
         "setf, a reference": ("new 1 1 any:null i32:0\n", "setf 1 0 r1\n"),
         "sete": ("newarr 1 2 4 i32:7\n", "sete 1 3 i32:7\n"),
         "elem": ("newarr 1 2 4 i32:7\n", "elem 1 3\n"),
+        "bytes, read": ("bytes 1 4 0708090a\n", "bytes 1 4\n"),
         "len": ("newarr 1 2 4 i32:7\n", "len 1\n"),
         "eq": ("gget 0 1\n", "eq 1 1\n"),
         "gset": ("gget 0 1\n", "gset 1 1\n"),
         "gget": ("", "gget 0 1\n"),
+        "throw, take": ("newexn 1 3 0 i32:7\n", "throw 1\ntake 2\n"),
+        "grow, by nothing": ("", "grow 0\n"),
         "cap": ("", "cap\n"),
     }),
     "scoped roots": (roots, {
@@ -72,14 +77,21 @@ GROWN = {
         "own, unroot": ("", "own 0 1\nunroot 0\n"),
     }),
     "scopes": (scopes, {"enter": ("", "enter\n"), "enter, leave": ("", "enter\nleave\n")}),
-    "types": (types, {"struct": ("", "struct m:i32\n"), "new": ("", "new 2 0 any:null i32:7\n")}),
+    "types": (types, {"struct": ("", "struct m:i32\n"), "array": ("", "array m:i32\n"), "exn": ("", "exn i32\n"), "new": ("", "new 2 0 any:null i32:7\n")}),
     "slots": (slots, {"store": ("push 8\n", "store 3 1\n"), "load": ("push 8\nstore 3 1\n", "load 3 2\n"), "push, pop": ("", "push 8\npop\n")}),
     "owned roots": (owned_roots, {"own": ("", "own 0 1\n"), "root": ("", "root 1 0\n")}),
     "host values": (host_values, {"host": ("", "host 2 5\n"), "data": ("", "data 1\n")}),
 }
 
-# Collections over what was grown: the time is told for each thing that stands.
-COLLECTED = {"objects": objects, "scoped roots": roots, "slots": slots, "host values": host_values}
+# Collections over what was grown, by which command: the time is told for each thing that stands.
+COLLECTED = {
+    "objects": (objects, "gc\n"),
+    "objects, by increments": (objects, "gcinc\n"),
+    "objects, begun and dropped": (objects, "gcdrop\n"),
+    "scoped roots": (roots, "gc\n"),
+    "slots": (slots, "gc\n"),
+    "host values": (host_values, "gc\n"),
+}
 
 
 def deep():

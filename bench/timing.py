@@ -10,7 +10,11 @@ PROGRAM = Path(os.environ.get("GCSH", Path(__file__).resolve().parent.parent / "
 RUNS = int(os.environ.get("RUNS", 5))
 
 
-REFUSALS = (b"GcHeapOutOfMemory", b"NoSuchName", b"RootsFull", b"TypeMismatch", b"BadType")
+# Each refusal but the one that `throw` always has, and that of a line which is no command.
+REFUSALS = tuple(name.encode() for name in (
+    "NoSuchName Unrooted WrongKind BadType FieldCount TypeMismatch OutOfBounds Immutable NotI8Array LengthMismatch TooLarge RootsFull "
+    "GcHeapOutOfMemory GcHeapGrowthFailed"
+).split())
 
 
 class Failed(Exception):
@@ -64,7 +68,7 @@ class Session:
             if not piece:
                 raise Failed("the program ended early")
             left -= piece.count(b"\n")
-            if any(refusal in seen[-32:] + piece for refusal in REFUSALS):
+            if any(refusal in seen[-32:] + piece for refusal in (b"BadLine", *REFUSALS)):
                 raise Failed("a command was refused")
             seen = piece
         giving.join()
