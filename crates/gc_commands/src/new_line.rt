@@ -12,7 +12,8 @@ use crate::words::{Words, behind};
 use std::alloc::AllocError;
 
 /// The register and the type of a line, without its line feed, that is `new`; None exactly where it is none. Its operands are
-/// then in the list that is handed in, which takes memory only where it has no room for them; else that has any.
+/// then in the list that is handed in, which takes memory only where it has no room for them. Behind None, or want of memory,
+/// that list may have any.
 #[inline(always)]
 pub fn new_of(list: &mut Operands, line: &[u8]) -> Result<Option<(u16, u32)>, AllocError>
     ensures is { IfOk result (λ to. IfSome to (λ at. IsCommandOf line.now (Command.New at.0 at.1 list.new))) }

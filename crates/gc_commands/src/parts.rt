@@ -10,9 +10,8 @@
 ghost use Rattle.std.specs.Prelude.{◌≡◌, ℕ, ◌<◌, ◌^◌, List, [], IfOk, IfSome, MatchOption, map};
 ghost use Rattle.std.specs.Fmt.{decimal};
 ghost use Rattle.std.specs.List.{AllByRecursion};
-ghost use Rattle.std.specs.Option.{option_map};
-ghost use Rattle.gc_commands.specs.Parts.{FitPlace, FitRegisterAndNumber, FitRegisterAndWide, FitRegisters, FitWrite, ReadsOperands, ReadsTarget, number_words, pair_words};
-ghost use Rattle.gc_commands.specs.Parts.{place_words, write_words};
+ghost use Rattle.gc_commands.specs.Parts.{FitPlace, FitRegisterAndNumber, FitRegisterAndWide, FitRegisters, FitWrite, number_words, pair_words};
+ghost use Rattle.gc_commands.specs.Parts.{ReadsOperands, ReadsTarget, place_words, write_words};
 ghost use Rattle.gc_commands.specs.Reading.{Reads, ReadsFirst};
 ghost use Rattle.gc_commands.specs.Spelling.{FitsOperand, into_words, type_count};
 ghost use Rattle.gc_commands.specs.Words.{operand_text};
@@ -174,7 +173,7 @@ pub(crate) fn read_target(words: &mut Words) -> Option<(u16, u32)>
     Some((d, t))
 }
 
-/// Puts the operands that all words spell into a list, in place of those that it has, and answers whether they spell some.
+/// Puts the operands that all words spell into a list, in place of those that it has, and answers whether each word spells one.
 pub(crate) fn fill_operands(list: &mut Operands, words: &mut Words) -> Result<bool, AllocError>
     ensures { IfOk result (λ all. ReadsOperands words.old all list.new) }
 {

@@ -62,7 +62,7 @@ pub data BrokeOff (layouts : Layouts) (counter : Option ℕ) (limits : Limits) (
   not_written : {limits' : Limits} {command : Command} {answer : Reply} → IsCommandOf line command → Ran layouts counter limits limits' s command answer store runner → TookPart held held' (reply_line answer)
       → BrokeOff layouts counter limits s line store runner held held'
 
--- what running a line leaves, by the answer
+-- what running a line leaves, by the answer: both cases as one, where a call hands on the answer of another
 abbrev pub RunsLine : Layouts → Option ℕ → Limits → Limits → State → List ℕ → StoreView ℕ → RunnerView → Option (List ℕ) → Option (List ℕ) → Result (Unit {0}) LineFault → Type 0
 RunsLine layouts counter limits limits' s line store runner held held' (Ok done) = RanLine layouts counter limits limits' s line store runner held held'
 RunsLine layouts counter limits limits' s line store runner held held' (Err fault) = BrokeOff layouts counter limits s line store runner held held'

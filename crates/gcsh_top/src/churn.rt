@@ -78,7 +78,7 @@ impl Round {
         }
     }
 
-    /// `new`: makes its object. Its operands stand in the list that is handed in.
+    /// `new`: makes its object. Its operands use the room of the list that is handed in.
     // In place, so that it is known which command is run.
     #[inline(always)]
     pub(crate) fn make(&self, alloc: Global, room: &mut Operands) -> Result<Command, AllocError>
