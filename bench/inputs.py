@@ -47,7 +47,7 @@ def host_values(count):
 
 
 # What is grown, and the commands that are timed over it, each with what comes before it is repeated. A command of several lines is
-# timed as one. Nothing here is refused.
+# timed as one. Nothing here is refused, but `throw`, whose reply is always a refusal.
 GROWN = {
     "objects": (objects, {
         "new": ("enter\n", "new 2 1 any:null i32:7\n"),

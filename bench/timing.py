@@ -10,7 +10,7 @@ PROGRAM = Path(os.environ.get("GCSH", Path(__file__).resolve().parent.parent / "
 RUNS = int(os.environ.get("RUNS", 5))
 
 
-# Each refusal but the one that `throw` always has, and that of a line which is no command.
+# Each refusal but the one that `throw` always has, and `BadLine`, which the run of empty lines has at each.
 REFUSALS = tuple(name.encode() for name in (
     "NoSuchName Unrooted WrongKind BadType FieldCount TypeMismatch OutOfBounds Immutable NotI8Array LengthMismatch TooLarge RootsFull "
     "GcHeapOutOfMemory GcHeapGrowthFailed"
@@ -68,7 +68,8 @@ class Session:
             if not piece:
                 raise Failed("the program ended early")
             left -= piece.count(b"\n")
-            if any(refusal in seen[-32:] + piece for refusal in (b"BadLine", *REFUSALS)):
+            both = seen[-32:] + piece
+            if any(refusal in both for refusal in (b"BadLine", *REFUSALS)):
                 raise Failed("a command was refused")
             seen = piece
         giving.join()
