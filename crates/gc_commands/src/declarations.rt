@@ -6,7 +6,7 @@ ghost use Rattle.std.specs.List.{AllByRecursion};
 ghost use Rattle.std.specs.Option.{option_map};
 ghost use Rattle.gc_commands.specs.declared.form.Form.TheVariants as form;
 ghost use Rattle.gc_commands.specs.Parts.{ReadsFront, ReadsSupertype};
-ghost use Rattle.gc_commands.specs.Reading.{Reads, ReadsFirst};
+ghost use Rattle.gc_commands.specs.Reading.{Reads};
 ghost use Rattle.gc_commands.specs.Forms.{unless_bad};
 ghost use Rattle.gc_commands.specs.Spelling.{FitsField, FitsValue, IsOfForm, operands_of};
 ghost use Rattle.gc_commands.specs.Words.{field_text, value_type_text};

@@ -1,7 +1,7 @@
 //! Hexadecimal digits in lower case: numbers of a width, and bytes. Read and written alike in commands, in replies and in
 //! the texts of other crates.
 
-ghost use Rattle.std.specs.Prelude.{◌≡◌, ℕ, ◌<◌, ◌≤◌, ◌^◌, [], ◌∷◌, ◌++◌, IfOk, OnOk, string_bytes};
+ghost use Rattle.std.specs.Prelude.{◌≡◌, ◌<◌, ◌≤◌, ◌^◌, [], ◌∷◌, ◌++◌, IfOk, OnOk, string_bytes};
 ghost use Rattle.std.specs.List.{AllByRecursion, flat_map};
 ghost use Rattle.std.specs.Option.{option_map};
 ghost use Rattle.gc_commands.specs.Reading.{Reads};

@@ -19,7 +19,7 @@ use crate::plain::{
     read_host_number, read_i31, read_len, read_load, read_own, read_push, read_root, read_set_elem,
     read_set_field, read_set_global, read_store, read_take, read_throw, read_unroot,
 };
-use crate::words::{Words, cut_name};
+use crate::words::{Words, cut_word};
 use std::alloc::{AllocError, Global};
 
 /// A line may have this many bytes without its line feed.
@@ -48,7 +48,7 @@ pub fn parse_line_into(
     if line.len() > MAX_LINE {
         return Ok(Command::Bad);
     }
-    let (name, behind) = cut_name(line);
+    let (name, behind) = cut_word(line);
     let Some(form) = form_of(name) else {
         return Ok(Command::Bad);
     };

@@ -1,8 +1,8 @@
 //! Writes the commands that declare types.
 
-ghost use Rattle.std.specs.Prelude.{◌≡◌, ◌++◌, ◌∷◌, [], codes, map, OnOk, string_bytes};
+ghost use Rattle.std.specs.Prelude.{◌≡◌, ◌++◌, map, OnOk, string_bytes};
 ghost use Rattle.gc_commands.specs.Spelling.{IsDeclaring, final_words, spelling, supertype_words};
-ghost use Rattle.gc_commands.specs.Words.{field_text, heap_text, mutability_text, null_mark, spaced, storage_text, value_type_text};
+ghost use Rattle.gc_commands.specs.Words.{field_text, heap_text, null_mark, spaced, storage_text, value_type_text};
 
 use crate::command::{Command, FieldWord, HeapWord, StorageWord, ValueWord};
 use std::alloc::AllocError;

@@ -1,7 +1,7 @@
 //! Writes the reply to a command.
 
 ghost use Rattle.std.specs.Prelude.{◌≡◌, ℕ, List, ◌++◌, ◌≤◌, codes, IfOk, IfSome, OnOk, string_bytes};
-ghost use Rattle.gc_commands.specs.Text.{bool_text, refusal_text, text_of, reply_value_text};
+ghost use Rattle.gc_commands.specs.Text.{refusal_text, text_of, reply_value_text};
 ghost use Rattle.gc_commands.specs.Words.{bytes_text, hex_digits};
 
 use crate::hex::{push_bytes, push_hex};
