@@ -1,11 +1,11 @@
 -- What the operands of a command hold.
-use Rattle.std.proofs.Common.{◌≡◌, ℕ, ◌+◌, ◌<◌, ◌≤◌, Bool, ◌||◌, List, [], ◌∷◌, ◌++◌, drop, length, get_or, Option, Some, None, true, false, sym, ap, ◌∙◌, refl, subst}
+use Rattle.std.proofs.Common.{◌≡◌, ℕ, suc, ◌+◌, ◌<◌, ◌≤◌, Bool, ◌||◌, List, [], ◌∷◌, drop, length, get_or, Option, Some, None, true, false, sym, ap, ◌∙◌, refl, subst}
 use Rattle.std.specs.Prelude.{unwrap_or, is_some}
 use Rattle.std.specs.List.{slice_get}
 use Rattle.std.specs.Option.{option_map}
-use Rattle.std.proofs.lemmas.List.{drop_all, drop_more, append_assoc, append-nil}
+use Rattle.std.proofs.lemmas.List.{drop_all, drop_more}
 use Rattle.std.proofs.lemmas.List.Folds.{list_any_at}
-use Rattle.std.proofs.lemmas.Option.{slice_get-map}
+use Rattle.std.proofs.lemmas.Option.{none-some, slice_get-map}
 use Rattle.gc_owner.specs.declared.entry.GcClass.TheVariants as class
 use Rattle.gc_model.specs.Stores.{StoreView}
 use Rattle.gc_model.specs.Table.{Table}
@@ -13,12 +13,21 @@ use Rattle.gc_values.specs.declared.root.RawValue.{RawValue}
 use Rattle.gc_values.specs.declared.root.RawValue.TheVariants as raw
 use Rattle.gc_commands.specs.declared.command.Operand.{Operand}
 use Rattle.gc_commands.specs.declared.command.Operand.TheVariants as operand
+use Rattle.gc_model.specs.SideValues.{no_side_values}
+use Rattle.gc_values.specs.declared.request.Place.{Place}
+use Rattle.gc_values.specs.Filling.{each_of}
+use Rattle.gc_values.specs.RawValues.{raw_side_values}
+use Rattle.gc_script.specs.declared.make.NewValues.{NewValues}
+use Rattle.gc_script.specs.declared.make.NewValues.TheVariants as new
+use Rattle.gc_script.specs.NewValues.{contents_of, operand_values}
+use Rattle.gc_script.specs.Requested.{IsPlainRequest}
+use Rattle.gc_script.specs.Slots.{register_at}
 use Rattle.gc_script.specs.State.{State, Held, RegisterStands}
 use Rattle.gc_script.specs.Given.{held_operand, given, given_held, is_unset}
 use Rattle.gc_script.specs.Steps.{any_unset}
 use Rattle.gc_script.proofs.FoundLemmas.{unset_held}
 use Rattle.gc_script.proofs.WriteLemmas.{is_set}
-use Rattle.gc_script.specs.Values.{AreRegisters, HoldsOperand, raw_operand, set_operand, set_operands, HasUnset, AllHeld}
+use Rattle.gc_script.specs.Values.{AreRegisters, HoldsOperand, raw_operand, set_operand, set_operands, HasUnset, AllHeld, AllPlain}
 
 -- an operand holds the value that it is by the registers
 pub raw_holds : (slots : List (Option RawValue)) (v : Operand) → HoldsOperand slots v (raw_operand slots v)
@@ -74,21 +83,48 @@ passed_more slots vs i v found lt is some holds passed store s are =
 pub all_passed : (slots : List (Option RawValue)) (vs : List Operand) (i : ℕ) → length vs ≤ i → PassedSet slots vs i → (store : StoreView ℕ) (s : State) → AreRegisters store slots s → any_unset s vs ≡ false
 all_passed slots vs i over passed store s are = passed store s are ∙ ap (any_unset s) (drop_all i vs over)
 
--- the values so far, and those of the operands that are left, are those of all
-abbrev pub GivenSoFar : List (Option RawValue) → List Operand → ℕ → List RawValue → Type 0
-GivenSoFar slots vs i raws = raws ++ set_operands slots (drop i vs) ≡ set_operands slots vs
-
-pub given_more : (slots : List (Option RawValue)) (vs : List Operand) (i : ℕ) (v : Operand) (raws : List RawValue) → i < length vs → v ≡ get_or vs i v → GivenSoFar slots vs i raws → GivenSoFar slots vs (i + 1) (raws ++ set_operand slots v ∷ [])
-given_more slots vs i v raws lt is so_far =
-    append_assoc raws (set_operand slots v ∷ []) (set_operands slots (drop (i + 1) vs))
-    ∙ ap (λ (x : Operand). raws ++ set_operand slots x ∷ set_operands slots (drop (i + 1) vs)) is
-    ∙ ap (λ (xs : List Operand). raws ++ set_operands slots xs) (sym (drop_more vs i v lt))
-    ∙ so_far
-
-pub all_given : (slots : List (Option RawValue)) (vs : List Operand) (i : ℕ) (raws : List RawValue) → length vs ≤ i → GivenSoFar slots vs i raws → raws ≡ set_operands slots vs
-all_given slots vs i raws over so_far =
-    sym (append-nil raws) ∙ ap (λ (xs : List Operand). raws ++ set_operands slots xs) (sym (drop_all i vs over)) ∙ so_far
-
 -- the value of an operand among those of all
 pub set_at : (slots : List (Option RawValue)) (vs : List Operand) (i : ℕ) (v : Operand) → slice_get vs i ≡ Some v → slice_get (set_operands slots vs) i ≡ Some (set_operand slots v)
 set_at slots vs i v e = slice_get-map (set_operand slots) vs i ∙ ap (option_map (set_operand slots)) e
+
+-- by registers that hold the same, operands give the same
+module _ (a b : List (Option RawValue)) (same : (d : ℕ) → register_at a d ≡ register_at b d) where
+  operand_same : (v : Operand) → raw_operand a v ≡ raw_operand b v
+  operand_same (operand.I32 n) = refl
+  operand_same (operand.I64 n) = refl
+  operand_same (operand.F32 n) = refl
+  operand_same (operand.F64 n) = refl
+  operand_same (operand.V128 n) = refl
+  operand_same operand.AnyNull = refl
+  operand_same operand.ExternNull = refl
+  operand_same operand.ExnNull = refl
+  operand_same (operand.Register r) = same r
+
+  operands_same : (vs : List Operand) → set_operands a vs ≡ set_operands b vs
+  operands_same [] = refl
+  operands_same (v ∷ vs) =
+      ap (λ (o : Option RawValue). unwrap_or o (raw.Ref class.Any None) ∷ set_operands a vs) (operand_same v)
+      ∙ ap (λ (rs : List RawValue). set_operand b v ∷ rs) (operands_same vs)
+
+  pub contents_same : (values : NewValues) → contents_of a values ≡ contents_of b values
+  contents_same (new.Operands vs) = ap each_of (operands_same vs.now)
+  contents_same (new.Same value) = refl
+  contents_same (new.Bytes bytes) = refl
+
+-- values among which is no function and no continuation need no ids
+pub plain_none : (raws : List RawValue) → AllPlain raws → raw_side_values raws ≡ no_side_values
+plain_none [] plain = refl
+plain_none (raw.I32 n ∷ raws) plain = plain_none raws (λ i. plain (suc i))
+plain_none (raw.I64 n ∷ raws) plain = plain_none raws (λ i. plain (suc i))
+plain_none (raw.F32 n ∷ raws) plain = plain_none raws (λ i. plain (suc i))
+plain_none (raw.F64 n ∷ raws) plain = plain_none raws (λ i. plain (suc i))
+plain_none (raw.V128 n ∷ raws) plain = plain_none raws (λ i. plain (suc i))
+plain_none (raw.Func f ∷ raws) plain = absurd (cc (plain 0 (raw.Func f) refl))
+plain_none (raw.Cont c ∷ raws) plain = absurd (cc (plain 0 (raw.Cont c) refl))
+plain_none (raw.Ref c handle ∷ raws) plain = plain_none raws (λ i. plain (suc i))
+
+-- what a request gives without functions and continuations, its operands do
+pub plain_given : (slots : List (Option RawValue)) (request : Place) (values : NewValues) → IsPlainRequest request (contents_of slots values) → AllPlain (operand_values slots values)
+plain_given slots request (new.Operands vs) plain = plain
+plain_given slots request (new.Same value) plain = λ i r e. absurd (none-some r e)
+plain_given slots request (new.Bytes bytes) plain = λ i r e. absurd (none-some r e)

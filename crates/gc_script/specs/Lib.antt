@@ -16,3 +16,4 @@ pub mod Cutting
 pub mod Session
 pub mod Script
 pub mod Endings
+pub mod NewValues

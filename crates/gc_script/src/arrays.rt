@@ -9,12 +9,12 @@ ghost use Rattle.gc_script.specs.Wants.{MayWant};
 ghost use Rattle.gc_store.specs.Stores.{IsSameStore};
 
 use crate::ending::Ending;
-use crate::make::place;
+use crate::make::{NewValues, place};
 use crate::runner::Runner;
-use crate::values::{any_unset, check_elements, check_value, give_values, operand_value};
+use crate::values::{any_unset, check_elements, check_value, operand_value};
 use gc_commands::{Operand, Refusal};
 use gc_heap::GcHeap;
-use gc_store::{Contents, Place, ResourceLimiter, Store};
+use gc_store::{Place, ResourceLimiter, Store};
 use gc_types::VMSharedTypeIndex;
 
 impl Runner {
@@ -54,7 +54,7 @@ impl Runner {
             limiter,
             d,
             Place::Array(ty, len),
-            Contents::Same(&value),
+            NewValues::Same(&value),
         )
     }
 
@@ -87,16 +87,13 @@ impl Runner {
         let Ok(len) = u32::try_from(operands.len()) else {
             return Ending::Refused(Refusal::TooLarge);
         };
-        if give_values(&mut self.values, &self.registers, operands).is_err() {
-            return Ending::OutOfMemory;
-        }
         place(
             &mut self.registers,
             store,
             limiter,
             d,
             Place::Array(ty, len),
-            Contents::Each(self.values.as_slice()),
+            NewValues::Operands(operands),
         )
     }
 
@@ -133,7 +130,7 @@ impl Runner {
             limiter,
             d,
             Place::Array(ty, len),
-            Contents::Bytes(bytes),
+            NewValues::Bytes(bytes),
         )
     }
 }

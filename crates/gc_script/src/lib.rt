@@ -9,6 +9,7 @@
 mod arrays;
 mod built;
 mod collections;
+mod command_values;
 pub mod cutter;
 mod declare;
 pub mod ending;
@@ -20,6 +21,7 @@ mod growth;
 mod hosts;
 mod make;
 mod objects;
+mod operands;
 mod owned;
 mod reads;
 mod references;

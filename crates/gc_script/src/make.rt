@@ -4,6 +4,7 @@ ghost use Rattle.std.specs.Prelude.{◌≡◌, ℕ, option_copied, OnErr};
 ghost use Rattle.gc_commands.specs.declared.command.Command.TheVariants as Command;
 ghost use Rattle.gc_model.specs.Values.{Object};
 ghost use Rattle.gc_script.specs.Endings.{answer_of};
+ghost use Rattle.gc_script.specs.NewValues.{contents_of};
 ghost use Rattle.gc_script.specs.Requested.{class_of, fields_of_kind, requested, requested_fields, requested_tests, IsPlainRequest};
 ghost use Rattle.gc_script.specs.Slots.{RunnerRest, with_registers};
 ghost use Rattle.gc_script.specs.State.{State, HoldsState, visible};
@@ -14,15 +15,16 @@ ghost use Rattle.gc_store.specs.Requests.{CanPlaceIn, IsObjectOf};
 ghost use Rattle.gc_script.specs.Wants.{IsUnrefused, MayWant};
 ghost use Rattle.gc_store.specs.Stores.{IsSameStore};
 
+use crate::command_values::CommandValues;
 use crate::ending::Ending;
 use crate::registers::Registers;
 use crate::runner::Runner;
-use crate::values::{any_unset, check_fields, give_values};
+use crate::values::{any_unset, check_fields};
 use gc_commands::{Operand, Refusal};
 use gc_heap::GcHeap;
 use gc_refs::I31;
 use gc_store::laws::stores_hold_tables;
-use gc_store::{Contents, GcClass, Place, PlaceFault, RawValue, ResourceLimiter, RootFault, Store};
+use gc_store::{GcClass, Place, PlaceFault, RawValue, ResourceLimiter, RootFault, Store};
 use gc_types::{FieldType, TypeKind, Types, VMSharedTypeIndex};
 
 /// The class of references to what is requested.
@@ -58,6 +60,17 @@ fn requested_fields<'a>(types: &'a Types, request: &Place) -> Option<&'a [FieldT
     }
 }
 
+/// The values of an object that a command makes.
+#[derive(Clone, Copy)]
+pub(crate) enum NewValues<'a> {
+    /// A value for each field or element, in order.
+    Operands(&'a [Operand]),
+    /// One value for all elements of an array.
+    Same(&'a RawValue),
+    /// The elements of an array of bytes.
+    Bytes(&'a [u8]),
+}
+
 /// Places an object that may be placed and has no function and no continuation, and puts it into register `d`.
 pub(crate) fn place<H: GcHeap, L: ResourceLimiter>(
     registers: &mut Registers,
@@ -65,12 +78,12 @@ pub(crate) fn place<H: GcHeap, L: ResourceLimiter>(
     limiter: &mut L,
     d: u16,
     request: Place,
-    contents: Contents<'_>,
+    values: NewValues<'_>,
 ) -> Ending
-    requires can { CanPlaceIn ℕ H.KIND store.old request contents }
-    requires plain { IsPlainRequest request contents }
+    requires can { CanPlaceIn ℕ H.KIND store.old request (contents_of registers.old values) }
+    requires plain { IsPlainRequest request (contents_of registers.old values) }
     ensures runs { (s : State) (rest : RunnerRest) (object : State → Object ℕ) → HoldsState H.KIND store.old (with_registers registers.old rest) s
-        → IsObjectOf store.old s.table request contents.entry (object (visible s))
+        → IsObjectOf store.old s.table request (contents_of registers.old values.entry) (object (visible s))
         → RunsOn H.KIND store.old.alloc_counter (L.limits limiter.old) (L.limits limiter.new) s (making d (class_of request) object)
         (heap_tests H.KIND s (object (visible s))) (answer_of result) store.new (with_registers registers.new rest) }
     ensures same { IsSameStore store.old store.new }
@@ -80,6 +93,7 @@ pub(crate) fn place<H: GcHeap, L: ResourceLimiter>(
         return Ending::OutOfMemory;
     }
     let class = class_of(&request);
+    let contents = CommandValues { registers, values };
     match store.place(limiter, request, contents) {
         Ok(handle) => {
             registers.set(d, RawValue::Ref(class, Some(handle)));
@@ -125,16 +139,13 @@ impl Runner {
         if let Err(refusal) = check_fields(store, &self.registers, fields, operands) {
             return Ending::Refused(refusal);
         }
-        if give_values(&mut self.values, &self.registers, operands).is_err() {
-            return Ending::OutOfMemory;
-        }
         place(
             &mut self.registers,
             store,
             limiter,
             d,
             request,
-            Contents::Each(self.values.as_slice()),
+            NewValues::Operands(operands),
         )
     }
 

@@ -19,7 +19,7 @@ use crate::objects::Wanted;
 use crate::registers::Registers;
 use gc_commands::{Command, Lone, Refusal, Reply};
 use gc_heap::GcHeap;
-use gc_store::{RawValue, ResourceLimiter, Store};
+use gc_store::{ResourceLimiter, Store};
 use std::alloc::Global;
 use std::marker::Model;
 use thiserror::Error;
@@ -42,8 +42,6 @@ pub struct Runner {
     pub(crate) owned: Registers,
     /// The numbers of roots with which the open scopes were entered, the oldest first.
     pub(crate) marks: Vec<usize>,
-    /// The values of the command that made an object last; the next such command uses their room again.
-    pub(crate) values: Vec<RawValue>,
 }
 
 impl Model for Runner {
@@ -64,7 +62,6 @@ impl Runner {
             registers: Registers::new(alloc),
             owned: Registers::new(alloc),
             marks: Vec::new(alloc),
-            values: Vec::new(alloc),
         }
     }
 

@@ -21,7 +21,6 @@ use gc_commands::{Operand, Refusal};
 use gc_heap::GcHeap;
 use gc_store::{GcClass, GcRootIndex, RawValue, RootedObject, Store};
 use gc_types::FieldType;
-use std::alloc::AllocError;
 
 /// What an operand holds; None where it is a register that is unset.
 #[inline(always)]
@@ -54,47 +53,6 @@ pub(crate) fn any_unset(registers: &Registers, operands: &[Operand]) -> bool
         }
     }
     false
-}
-
-/// Puts what an operand holds into a place; null where it is a register that is unset.
-// Each arm writes by itself: else a value of any kind is put together first, and then copied.
-#[inline(always)]
-fn put_operand(place: &mut RawValue, registers: &Registers, operand: &Operand)
-    ensures { place.new ≡ set_operand registers.now operand.now }
-{
-    match *operand {
-        Operand::I32(number) => *place = RawValue::I32(number),
-        Operand::I64(number) => *place = RawValue::I64(number),
-        Operand::F32(bits) => *place = RawValue::F32(bits),
-        Operand::F64(bits) => *place = RawValue::F64(bits),
-        Operand::V128(bits) => *place = RawValue::V128(bits),
-        Operand::AnyNull => *place = RawValue::Ref(GcClass::Any, None),
-        Operand::ExternNull => *place = RawValue::Ref(GcClass::Extern, None),
-        Operand::ExnNull => *place = RawValue::Ref(GcClass::Exn, None),
-        Operand::Register(register) => match registers.held(register) {
-            Some(value) => *place = *value,
-            None => *place = RawValue::Ref(GcClass::Any, None),
-        },
-    }
-}
-
-/// Makes a list that of the values of operands, none of which is a register that is unset. Its room is used again.
-#[inline(always)]
-pub(crate) fn give_values(
-    values: &mut Vec<RawValue>,
-    registers: &Registers,
-    operands: &[Operand],
-) -> Result<(), AllocError>
-    ensures { OnOk result (values.new.items ≡ set_operands registers.now operands.now) }
-{
-    if values.len() != operands.len() {
-        let null = RawValue::Ref(GcClass::Any, None);
-        values.resize(operands.len(), null)?;
-    }
-    for (index, operand) in operands.iter().enumerate() {
-        put_operand(&mut values[index], registers, operand);
-    }
-    Ok(())
 }
 
 /// The class and the handle of a value, where it is a reference.

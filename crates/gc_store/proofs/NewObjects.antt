@@ -12,7 +12,6 @@ use Rattle.gc_types.specs.declared.kind.Layouts.{Layouts}
 use Rattle.gc_types.specs.declared.kind.Layouts.TheVariants.{Null, Counting, Copying}
 use Rattle.gc_types.specs.Declarations.{Declaration, Shape, struct_of, array_of, exn_of, constant_field, struct_fields_at, elem_at}
 use Rattle.gc_types.specs.Layouts.{struct_base, array_base, exception_base, storage_width, struct_layout, exn_layout, array_layout, fields_end, layout_at, array_layout_at}
-use Rattle.gc_types.specs.declared.kind.VMGcKind.TheVariants.{ExnRef}
 use Rattle.gc_types.specs.declared.value.Tag.{Tag}
 use Rattle.gc_types.specs.declared.value.ValType.{ValType}
 use Rattle.gc_view.specs.Heaps.{HeapObject, HeapView}
@@ -27,23 +26,19 @@ use Rattle.gc_owner.specs.Owners.{OwnerView}
 use Rattle.gc_model.proofs.ObjectShapes.{shape_at, struct_shape, array_shape}
 use Rattle.gc_values.specs.declared.request.Place.{Place}
 use Rattle.gc_values.specs.declared.request.Place.TheVariants as place
-use Rattle.gc_values.specs.Filling.{AreBlank, asked_type, IsOfAskedKind}
+use Rattle.gc_values.specs.Filling.{AreBlank, asked_type, requested_kind, IsOfAskedKind}
 use Rattle.gc_values.specs.HeldSlots.{HasHeapShape}
 use Rattle.gc_values.specs.Making.{IsSizeOf, described_by}
 use Rattle.gc_values.proofs.ShapeSlots.{laid_out}
 
 -- What is made for a request, by the types.
--- an exception that is requested is one
+-- an object is of the kind that is requested
 abbrev pub HasAskedKind : Place → HeapObject → Type 0
-HasAskedKind (place.Struct ty) o = Unit {0}
-HasAskedKind (place.Exn ty tag) o = o.kind ≡ ExnRef
-HasAskedKind (place.Array ty count) o = Unit {0}
+HasAskedKind request o = o.kind ≡ requested_kind request
 
 -- so it is where it was made
 pub asked_kind : (request : Place) (h : HeapView) (p : ℕ) (o : HeapObject) → get h.content p ≡ Some o → HasAskedKind request o → IsOfAskedKind request h p
-asked_kind (place.Struct ty) h p o held kind = tt
-asked_kind (place.Exn ty tag) h p o held kind = λ x e. ap (λ (y : HeapObject). y.kind) (same_Some x o (sym e ∙ held)) ∙ kind
-asked_kind (place.Array ty count) h p o held kind = tt
+asked_kind request h p o held kind = λ x e. ap (λ (y : HeapObject). y.kind) (same_Some x o (sym e ∙ held)) ∙ kind
 
 pub record IsNew (D : Type 0) (layouts : Layouts) (types : List Declaration) (request : Place) : Type 0 where
   pub shape : Shape
@@ -108,7 +103,7 @@ new_struct_is D layouts types ty fields declared =
       has = refl;
       is_size = (struct_layout layouts fields, (laid, refl));
       stored = omega (arith, length-replicate {A = ℕ} zeros 0, least, base);
-      of_kind = tt;
+      of_kind = refl;
       are_blank = zeros_lie layouts (struct_of fields) 0 [] zeros (omega arith) (omega (arith, least, base));
       described = λ v types_are. (struct_layout layouts fields, (ap (λ (ts : List Declaration). layout_at layouts ts ty) types_are ∙ laid, (refl, refl)));
     }
@@ -165,7 +160,7 @@ new_array_is D layouts types ty count element few declared =
       has = (refl, sym (from_le_bytes-to_le_bytes_4 count few));
       is_size = (layout, (laid, refl));
       stored = omega (arith, long, least, base, first);
-      of_kind = tt;
+      of_kind = refl;
       are_blank = zeros_lie layouts (array_of element) count (to_le_bytes w32 count) zeros (omega (arith, base)) (omega (arith, least, base, first));
       described = λ v types_are. (layout, (ap (λ (ts : List Declaration). array_layout_at layouts ts ty) types_are ∙ laid, (few, (refl, refl))));
     }

@@ -16,12 +16,12 @@ use crate::store::Store;
 use gc_heap::GcHeap;
 use gc_owner::{ResourceLimiter, RootEntry};
 use gc_refs::VMGcRef;
+use gc_values::contents::ContentSource;
 use gc_values::engine::StoreId;
 use gc_values::faults::PlaceFault;
-use gc_values::fill::fill;
-use gc_values::interned::{find_room, given_values, intern_all};
+use gc_values::interned::{find_room, intern_all};
 use gc_values::make::{description_of, make_object, object_size};
-use gc_values::request::{Contents, Place};
+use gc_values::request::Place;
 use gc_values::root::{GcRootIndex, RootSlot};
 use std::num::NonZeroU32;
 
@@ -66,7 +66,8 @@ impl<H: GcHeap, D: Drop> Store<H, D> {
             || self.owner.generation() == u64::MAX
     }
 
-    /// Places an object of a declared type with these values, and pushes a scoped root for it.
+    /// Places an object of a declared type with these values, and pushes a scoped root for it. The values are `Contents`, or come
+    /// from another source, as `EachFrom` of `gc_values`.
     /// Refused are, in this order: `FuncTableFull` where the function values of the store and those of the object that it
     /// hasn't yet, each counted once and none as well, pass 2^31; `ContTableFull` where the same is so of continuations, of
     /// which none isn't counted; `TooLarge` where no heap of the kind can hold it; `RootsFull` where no further scoped root
@@ -78,22 +79,22 @@ impl<H: GcHeap, D: Drop> Store<H, D> {
     /// The allocation is counted, and each n-th one collects first where the configuration says so. A
     /// heap without room collects or grows, by `should_collect_first`: it collects, tries again, and
     /// then grows by what is needed; or it grows, and collects only where that was refused. Its time is
-    /// linear in the object's size, beside that of a collection and of new memory.
-    pub fn place<L: ResourceLimiter>(
+    /// linear in the object's size, beside that of a collection, of new memory and of what a source takes.
+    pub fn place<L: ResourceLimiter, C: ContentSource + Drop>(
         &mut self,
         limiter: &mut L,
         request: Place,
-        contents: Contents<'_>,
+        contents: C,
     ) -> Result<GcRootIndex, PlaceFault>
-        requires { CanPlaceIn D H.KIND self.old request contents }
+        requires { CanPlaceIn D H.KIND self.old request (C.contents contents) }
         ensures same { IsSameStore self.old self.new }
         ensures spare { scoped_places self.old ≤ scoped_places self.new }
-        ensures places { (t : Table D) (a : Account) (o : Object D) → HoldsAccount H.KIND self.old t a → IsObjectOf self.old t request contents.entry o
+        ensures places { (t : Table D) (a : Account) (o : Object D) → HoldsAccount H.KIND self.old t a → IsObjectOf self.old t request (C.contents contents) o
             → Places H.KIND self.old.alloc_counter o (policy_state t a (L.limits limiter.old)) (L.limits limiter.new) result self.new }
     {
         self.owner.is_ready();
         let is_full = self.roots_full();
-        let given = given_values(&request, contents);
+        let given = contents.side_values(&request);
         find_room(*self.slot_counts.allocator(), &mut self.interned, given)?;
         let Some(size) = object_size::<H>(self.owner.types(), &request) else {
             return Err(PlaceFault::TooLarge);
@@ -119,7 +120,7 @@ impl<H: GcHeap, D: Drop> Store<H, D> {
             Ok(index) => {
                 intern_all(&mut self.interned, given);
                 let holder = holder_of(self.owner.scoped(), index);
-                fill(&mut self.owner, &self.interned, &holder, &request, contents);
+                contents.fill(&mut self.owner, &self.interned, &holder, &request);
                 Ok(scoped_handle(self.id, self.owner.generation(), index))
             }
             Err(fault) => Err(fault),

@@ -1,3 +1,4 @@
+pub mod AskedKinds
 pub mod AskedTypes
 pub mod Describing
 pub mod EachValue

@@ -1,6 +1,7 @@
 -- The loops that write values one after another into the slots of their indices.
-use Rattle.std.proofs.Common.{◌≡◌, ℕ, ◌+◌, ◌^◌, ◌<◌, true, List, length, Some, sym, ap, ◌∙◌, subst}
+use Rattle.std.proofs.Common.{inl, inr, ◌≡◌, ℕ, ◌+◌, ◌^◌, ◌<◌, true, List, length, Some, sym, ap, ◌∙◌, subst, arith}
 use Rattle.std.specs.List.{slice_get}
+use Rattle.std.proofs.lemmas.Option.{slice_get_cases}
 use Rattle.gc_types.specs.declared.kind.Layouts.{Layouts}
 use Rattle.gc_types.specs.Declarations.{Shape, TypeTable}
 use Rattle.gc_view.specs.Heaps.{HeapObject}
@@ -31,6 +32,13 @@ begun layouts ids raws old place ty idle = record {
 -- all in the end
 pub ended : {D : Type 0} {layouts : Layouts} {ids : InternedIds} {raws : List RawValue} {old new : OwnerView D} {place ty k : ℕ} → FillsFirst layouts ids raws old new place ty k → k ≡ length raws → FillsNew layouts old new place ty (EachFits ids raws) (EachStands ids raws)
 ended {D} {layouts} {ids} {raws} {old} {new} {place} {ty} {k} w all object shape count f = fills-all layouts ids raws old place ty object shape count f new k all (w.filled object shape count f)
+
+-- the value at an index that is within
+pub value_within : (raws : List RawValue) (k : ℕ) → k < length raws → (r : RawValue) × (slice_get raws k ≡ Some r)
+value_within raws k within = elim ((slice_get_cases raws k).1) [
+  | inl found ↦ (found.0, found.2)
+  | inr past ↦ absurd (omega (arith, within, past.0))
+]
 
 -- A value is the next one.
 pub record IsNext {D : Type 0} (layouts : Layouts) (ids : InternedIds) (raws : List RawValue) (old new : OwnerView D) (place ty k : ℕ) (r : RawValue) : Type 0 where

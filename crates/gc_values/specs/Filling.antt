@@ -7,7 +7,8 @@ use Rattle.gc_types.specs.declared.value.StorageType.TheVariants as storage
 use Rattle.gc_types.specs.declared.kind.Layouts.{Layouts}
 use Rattle.gc_types.specs.Declarations.{Shape}
 use Rattle.gc_types.specs.Layouts.{storage_width, struct_base}
-use Rattle.gc_types.specs.declared.kind.VMGcKind.TheVariants.{ExnRef}
+use Rattle.gc_types.specs.declared.kind.VMGcKind.{VMGcKind}
+use Rattle.gc_types.specs.declared.kind.VMGcKind.TheVariants.{StructRef, ArrayRef, ExnRef}
 use Rattle.gc_view.specs.Heaps.{HeapObject, HeapView}
 use Rattle.gc_view.specs.Slots.{StorageSlot, shape_slots, element_slots}
 use Rattle.gc_owner.specs.Owners.{OwnerView}
@@ -67,11 +68,13 @@ asked_type (place.Struct ty) = ty
 asked_type (place.Exn ty tag) = ty
 asked_type (place.Array ty count) = ty
 
+-- a value for each slot, wherever these stand
+abbrev pub each_of : List RawValue → Contents
+each_of raws = contents.Each (record { ref_ptr = (0, 0); now = raws })
+
 -- the contents of a request fit slots
 abbrev pub ContentsFit : InternedIds → Place → Contents → HandleRoots → List StorageSlot → Type 0
-ContentsFit ids (place.Struct ty) (contents.Each raws) entries slots = EachFits ids raws.now entries slots
-ContentsFit ids (place.Exn ty tag) (contents.Each raws) entries slots = EachFits ids raws.now entries slots
-ContentsFit ids (place.Array ty count) (contents.Each raws) entries slots = EachFits ids raws.now entries slots
+ContentsFit ids request (contents.Each raws) entries slots = EachFits ids raws.now entries slots
 ContentsFit ids (place.Array ty count) (contents.Same r) entries slots = SameFits ids r.now count entries slots
 ContentsFit ids (place.Array ty count) (contents.Bytes bytes) entries slots = BytesFit bytes.now entries slots
 ContentsFit ids _ _ entries slots = ⊥
@@ -177,8 +180,12 @@ front_of layouts (place.Struct ty) shape before after = KeepsFront layouts shape
 front_of layouts (place.Exn ty tag) shape before after = BeginsWithTag tag after
 front_of layouts (place.Array ty count) shape before after = KeepsFront layouts shape before after
 
--- where an exception is requested, the object at a place is one
+-- the kind of what is requested
+abbrev pub requested_kind : Place → VMGcKind
+requested_kind (place.Struct ty) = StructRef
+requested_kind (place.Exn ty tag) = ExnRef
+requested_kind (place.Array ty count) = ArrayRef
+
+-- the object at a place is of it
 abbrev pub IsOfAskedKind : Place → HeapView → ℕ → Type 0
-IsOfAskedKind (place.Struct ty) h p = Unit {0}
-IsOfAskedKind (place.Exn ty tag) h p = (o : HeapObject) → finite.get h.content p ≡ Some o → o.kind ≡ ExnRef
-IsOfAskedKind (place.Array ty count) h p = Unit {0}
+IsOfAskedKind request h p = (o : HeapObject) → finite.get h.content p ≡ Some o → o.kind ≡ requested_kind request

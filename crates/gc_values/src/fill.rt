@@ -6,13 +6,14 @@ ghost use Rattle.gc_values.specs.declared.stored.Stored.TheVariants as kept;
 ghost use Rattle.gc_values.specs.HeldSlots.{storage_slot};
 ghost use Rattle.gc_values.specs.Interning.{ids_of};
 ghost use Rattle.gc_values.specs.Filling.{CanFill, FillsNew, FillsAs, IsOfAskedKind, front_of, EachFits, EachStands, SameFits, SameStands, BytesFit, BytesStand};
-ghost use Rattle.gc_values.specs.Filling.{ContentsFit, ContentsStand, asked_type, AreElements, FillsAll, IsWidth};
+ghost use Rattle.gc_values.specs.Filling.{asked_type, AreElements, FillsAll, IsWidth};
 
 use crate::interned::InternedValues;
-use crate::request::{Contents, Place};
+use crate::request::Place;
 use crate::root::RawValue;
 use crate::slot::{Slot, element_slot, field_slot, slot_at};
-use crate::stored::{Stored, stored_value, write_slot, write_value};
+use crate::sources::ValueSource;
+use crate::stored::{Stored, stored_value, write_slot};
 use crate::tag::write_tag;
 use gc_heap::GcHeap;
 use gc_owner::HeapOwner;
@@ -27,66 +28,46 @@ const CHUNK: usize = 256;
 
 /// Writes each value into the element of its index.
 #[inline(always)]
-fn write_each_element<H: GcHeap, D: Drop>(
+fn write_each_element<H: GcHeap, D: Drop, V: ValueSource>(
     owner: &mut HeapOwner<H, D>,
     interned: &InternedValues,
     gc_ref: &VMGcRef,
     ty: VMSharedTypeIndex,
     element: &FieldType,
-    values: &[RawValue],
+    values: &V,
 )
     requires idle { owner.old.seen.idle ≡ true }
     requires element { elem_at owner.old.seen.types.declarations ty ≡ Some element.now }
-    requires can { CanFill H.KIND owner.old.seen gc_ref.now ty (EachFits (ids_of interned.now) values.now) }
+    requires can { CanFill H.KIND owner.old.seen gc_ref.now ty (EachFits (ids_of interned.now) (V.given values.now)) }
     ensures { FillsNew H.KIND owner.old.seen owner.new.seen gc_ref.now ty
-        (EachFits (ids_of interned.now) values.now) (EachStands (ids_of interned.now) values.now) }
+        (EachFits (ids_of interned.now) (V.given values.now)) (EachStands (ids_of interned.now) (V.given values.now)) }
 {
-    for (index, value) in values.iter().enumerate() {
+    for index in 0..values.count() {
         owner.is_ready();
         let slot = element_slot(owner.types(), H::KIND, ty, index as u32, *element);
-        write_value(owner, interned, gc_ref, &slot, value);
+        values.write_at(owner, interned, gc_ref, &slot, index);
     }
 }
 
 /// Writes each value into the field of its index.
 #[inline(always)]
-fn write_each_field<H: GcHeap, D: Drop>(
+fn write_each_field<H: GcHeap, D: Drop, V: ValueSource>(
     owner: &mut HeapOwner<H, D>,
     interned: &InternedValues,
     gc_ref: &VMGcRef,
     ty: VMSharedTypeIndex,
-    values: &[RawValue],
+    values: &V,
 )
     requires idle { owner.old.seen.idle ≡ true }
     requires no_array { elem_at owner.old.seen.types.declarations ty ≡ None }
-    requires can { CanFill H.KIND owner.old.seen gc_ref.now ty (EachFits (ids_of interned.now) values.now) }
+    requires can { CanFill H.KIND owner.old.seen gc_ref.now ty (EachFits (ids_of interned.now) (V.given values.now)) }
     ensures { FillsNew H.KIND owner.old.seen owner.new.seen gc_ref.now ty
-        (EachFits (ids_of interned.now) values.now) (EachStands (ids_of interned.now) values.now) }
+        (EachFits (ids_of interned.now) (V.given values.now)) (EachStands (ids_of interned.now) (V.given values.now)) }
 {
-    for (index, value) in values.iter().enumerate() {
+    for index in 0..values.count() {
         owner.is_ready();
         let slot = field_slot(owner.types(), H::KIND, ty, index as u32);
-        write_value(owner, interned, gc_ref, &slot, value);
-    }
-}
-
-/// Writes each value into the slot of its index. Whether these are elements is asked once.
-#[inline(always)]
-fn write_values<H: GcHeap, D: Drop>(
-    owner: &mut HeapOwner<H, D>,
-    interned: &InternedValues,
-    gc_ref: &VMGcRef,
-    ty: VMSharedTypeIndex,
-    values: &[RawValue],
-)
-    requires idle { owner.old.seen.idle ≡ true }
-    requires can { CanFill H.KIND owner.old.seen gc_ref.now ty (EachFits (ids_of interned.now) values.now) }
-    ensures { FillsNew H.KIND owner.old.seen owner.new.seen gc_ref.now ty
-        (EachFits (ids_of interned.now) values.now) (EachStands (ids_of interned.now) values.now) }
-{
-    match owner.types().array_elem(ty) {
-        Some(element) => write_each_element(owner, interned, gc_ref, ty, &element, values),
-        None => write_each_field(owner, interned, gc_ref, ty, values),
+        values.write_at(owner, interned, gc_ref, &slot, index);
     }
 }
 
@@ -193,7 +174,7 @@ fn write_elements<H: GcHeap, D: Drop>(
 }
 
 /// Writes one value into all elements of a new array, of which there are so many.
-fn write_same<H: GcHeap, D: Drop>(
+pub(crate) fn write_same<H: GcHeap, D: Drop>(
     owner: &mut HeapOwner<H, D>,
     interned: &InternedValues,
     gc_ref: &VMGcRef,
@@ -216,7 +197,7 @@ fn write_same<H: GcHeap, D: Drop>(
 }
 
 /// Writes the elements of a new array of bytes.
-fn write_bytes<H: GcHeap, D: Drop>(
+pub(crate) fn write_bytes<H: GcHeap, D: Drop>(
     owner: &mut HeapOwner<H, D>,
     gc_ref: &VMGcRef,
     ty: VMSharedTypeIndex,
@@ -234,39 +215,30 @@ fn write_bytes<H: GcHeap, D: Drop>(
     owner.write_number(gc_ref, first.offset, bytes);
 }
 
-/// Gives a new object of that request its values, and an exception its tag.
+/// Gives a new object of that request a value for each field or element, and an exception its tag.
 #[inline(always)]
-pub fn fill<H: GcHeap, D: Drop>(
+pub(crate) fn fill_each<H: GcHeap, D: Drop, V: ValueSource>(
     owner: &mut HeapOwner<H, D>,
     interned: &InternedValues,
     gc_ref: &VMGcRef,
     request: &Place,
-    contents: Contents<'_>,
+    values: &V,
 )
     requires idle { owner.old.seen.idle ≡ true }
-    requires can { CanFill H.KIND owner.old.seen gc_ref.now (asked_type request.now) (ContentsFit (ids_of interned.now) request.now contents) }
+    requires can { CanFill H.KIND owner.old.seen gc_ref.now (asked_type request.now) (EachFits (ids_of interned.now) (V.given values.now)) }
     requires kind { IsOfAskedKind request.now owner.old.seen.heap gc_ref.now }
     ensures { FillsAs H.KIND (front_of H.KIND request.now) owner.old.seen owner.new.seen gc_ref.now (asked_type request.now)
-        (ContentsFit (ids_of interned.now) request.now contents.entry) (ContentsStand (ids_of interned.now) contents.entry) }
+        (EachFits (ids_of interned.now) (V.given values.now)) (EachStands (ids_of interned.now) (V.given values.now)) }
 {
     match *request {
-        Place::Struct(ty) => match contents {
-            Contents::Each(values) => write_values(owner, interned, gc_ref, ty, values),
-            Contents::Same(_) => unreachable!(),
-            Contents::Bytes(_) => unreachable!(),
-        },
-        Place::Array(ty, count) => match contents {
-            Contents::Each(values) => write_values(owner, interned, gc_ref, ty, values),
-            Contents::Same(value) => write_same(owner, interned, gc_ref, ty, count, *value),
-            Contents::Bytes(bytes) => write_bytes(owner, gc_ref, ty, bytes),
-        },
-        Place::Exn(ty, tag) => match contents {
-            Contents::Each(values) => {
-                write_tag(owner, gc_ref, tag);
-                write_values(owner, interned, gc_ref, ty, values);
-            }
-            Contents::Same(_) => unreachable!(),
-            Contents::Bytes(_) => unreachable!(),
-        },
+        Place::Struct(ty) => write_each_field(owner, interned, gc_ref, ty, values),
+        Place::Array(ty, _) => {
+            let element = owner.types().array_elem(ty).unwrap();
+            write_each_element(owner, interned, gc_ref, ty, &element, values);
+        }
+        Place::Exn(ty, tag) => {
+            write_tag(owner, gc_ref, tag);
+            write_each_field(owner, interned, gc_ref, ty, values);
+        }
     }
 }

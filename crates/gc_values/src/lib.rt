@@ -8,10 +8,11 @@
 #![tactic(auto)]
 
 pub mod config;
+pub mod contents;
 pub mod describe;
 pub mod engine;
 pub mod faults;
-pub mod fill;
+mod fill;
 pub mod interned;
 pub mod make;
 pub mod own_types;
@@ -19,14 +20,17 @@ pub mod raw_value;
 pub mod request;
 pub mod root;
 pub mod slot;
+pub mod sources;
 pub mod stored;
 pub mod subtypes;
 mod tag;
 pub mod word;
 
 pub use config::HeapConfig;
+pub use contents::{ContentSource, EachFrom};
 pub use engine::{Engine, StoreId};
 pub use faults::{GcHeapOutOfMemory, PlaceFault, WriteFault};
 pub use request::{Contents, Place};
 pub use root::{GcRootIndex, RawValue, RootFault, RootSlot, RootedObject};
+pub use sources::ValueSource;
 pub use subtypes::{AskedPairs, TypePair};

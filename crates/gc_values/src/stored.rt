@@ -133,26 +133,9 @@ pub fn write_slot<H: GcHeap, D: Drop>(
 }
 
 /// Writes what is kept of a value to a slot of a held object.
-#[inline(always)]
-fn write_kept<H: GcHeap, D: Drop>(
-    owner: &mut HeapOwner<H, D>,
-    interned: &InternedValues,
-    gc_ref: &VMGcRef,
-    slot: &Slot,
-    value: &RawValue,
-)
-    requires idle { owner.old.seen.idle ≡ true }
-    requires can { CanWriteKept H.KIND (ids_of interned.now) owner.old.seen gc_ref.now (storage_slot slot.now) value.now }
-    ensures { WritesKept H.KIND (ids_of interned.now) owner.old.seen owner.new.seen gc_ref.now (storage_slot slot.now) value.now }
-{
-    let stored = stored_value(interned, owner.scoped(), owner.owned(), value);
-    write_slot(owner, gc_ref, slot, stored);
-}
-
-/// Writes a value to a slot of a held object.
 // The integers have arms of their own, in which the width of what is written is known.
 #[inline(always)]
-pub(crate) fn write_value<H: GcHeap, D: Drop>(
+pub fn write_value<H: GcHeap, D: Drop>(
     owner: &mut HeapOwner<H, D>,
     interned: &InternedValues,
     gc_ref: &VMGcRef,
@@ -172,7 +155,10 @@ pub(crate) fn write_value<H: GcHeap, D: Drop>(
             let stored = Stored::Number(u128::from(number.cast_unsigned()));
             write_slot(owner, gc_ref, slot, stored);
         }
-        _ => write_kept(owner, interned, gc_ref, slot, value),
+        _ => {
+            let stored = stored_value(interned, owner.scoped(), owner.owned(), value);
+            write_slot(owner, gc_ref, slot, stored);
+        }
     }
 }
 

@@ -1,21 +1,26 @@
-use Rattle.std.proofs.Common.{length, refl, ap, ◌∙◌, arith}
-use Rattle.std.proofs.lemmas.Option.{slice_get_read}
+use Rattle.std.proofs.Common.{◌≡◌, Some, ap, ◌∙◌, arith}
+use Rattle.std.specs.List.{slice_get}
 use Rattle.gc_types.specs.Declarations.{TypeTable, elem_at}
 use Rattle.gc_values.specs.Interning.{ids_of}
 use Rattle.gc_values.specs.HeldSlots.{FindsSlot}
-use Rattle.gc_values.proofs.ValueSteps.{IsNext, begun, ended, next_small, same_types, next_has, next_found, next_goes, next_written}
+use Rattle.gc_values.specs.declared.root.RawValue.{RawValue}
+use Rattle.gc_values.proofs.ValueSteps.{IsNext, value_within, begun, ended, next_small, same_types, next_has, next_found, next_goes, next_written}
 use Rattle.gc_values.proofs.fill.write_each_field.Given.{Over}
 use Rattle.gc_values.proofs.fill.write_each_field.Goals.{After-is_ready, After-field_slot-slot}
 use Rattle.gc_values.proofs.fill.write_each_field.Goals as goal
 
 pub loop-index-init : goal.loop-index-init
-loop-index-init g c = begun g.H.GcHeap.KIND (ids_of c.args.interned.now) c.args.values.now c.args.owner.now.seen c.args.gc_ref.now c.args.ty c.requires.idle
+loop-index-init g c = begun g.H.GcHeap.KIND (ids_of c.args.interned.now) (g.V.ValueSource.given c.args.values.now) c.args.owner.now.seen c.args.gc_ref.now c.args.ty c.requires.idle
 
-next : (g : Over) (c : After-is_ready g) → IsNext g.H.GcHeap.KIND (ids_of c.args.interned.now) c.args.values.now c.args.owner.now.seen c.loop-index.owner.seen c.args.gc_ref.now c.args.ty c.loop-index.index c.index-values-index.result
+-- the value of the index
+value : (g : Over) (c : After-is_ready g) → (r : RawValue) × (slice_get (g.V.ValueSource.given c.args.values.now) c.loop-index.index ≡ Some r)
+value g c = value_within (g.V.ValueSource.given c.args.values.now) c.loop-index.index (omega (arith, c.loop-index-test.true, c.loop-index.auto.index-end, c.count-index-end.ensures))
+
+next : (g : Over) (c : After-is_ready g) → IsNext g.H.GcHeap.KIND (ids_of c.args.interned.now) (g.V.ValueSource.given c.args.values.now) c.args.owner.now.seen c.loop-index.owner.seen c.args.gc_ref.now c.args.ty c.loop-index.index (value g c).0
 next g c = record {
   begins = c.requires.can;
   before = c.loop-index.invariant;
-  value_is = slice_get_read c.args.values.now (length c.args.values.now) c.loop-index.index c.index-values-index.result refl c.loop-index-test.true c.index-values-index.is;
+  value_is = (value g c).1;
   heap = c.is_ready.ensures.heap;
   can = c.is_ready.ensures.can;
 }
@@ -34,15 +39,17 @@ field_slot-slot-requires-clause-no_array g c =
 finds : (g : Over) (c : After-field_slot-slot g) → FindsSlot g.H.GcHeap.KIND c.loop-index.owner.seen.types.declarations c.args.ty c.loop-index.index c.field_slot-slot.result
 finds g c = next_found (next g (goal.at.After-field_slot-slot g c).After-is_ready) c.KIND.result c.types.result.now c.KIND.ensures c.types.ensures c.field_slot-slot.result c.field_slot-slot.ensures
 
-pub write_value-requires-clause-can : goal.write_value-requires-clause-can
-write_value-requires-clause-can g c =
-    let at = goal.at.write_value-requires-clause-can g c in
-    next_goes (next g at.After-is_ready) c.field_slot-slot.result (finds g at.After-field_slot-slot)
+pub write_at-requires-clause-can : goal.write_at-requires-clause-can
+write_at-requires-clause-can g c =
+    let at = goal.at.write_at-requires-clause-can g c in
+    let one = value g at.After-is_ready in
+    (one.0, (one.1, next_goes (next g at.After-is_ready) c.field_slot-slot.result (finds g at.After-field_slot-slot)))
 
 pub loop-index-preserved : goal.loop-index-preserved
 loop-index-preserved g c =
     let at = goal.at.loop-index-preserved g c in
-    next_written (next g at.After-is_ready) c.field_slot-slot.result (finds g at.After-field_slot-slot) c.write_value.new.owner.seen c.write_value.ensures
+    let one = value g at.After-is_ready in
+    next_written (next g at.After-is_ready) c.field_slot-slot.result (finds g at.After-field_slot-slot) c.write_at.new.owner.seen (c.write_at.ensures one.0 one.1)
 
 pub returns : goal.returns
-returns g c = ended c.loop-index.invariant (omega (arith, c.loop-index-test.false, c.loop-index.auto.index-end))
+returns g c = ended c.loop-index.invariant (omega (arith, c.loop-index-test.false, c.loop-index.auto.index-end, c.count-index-end.ensures))

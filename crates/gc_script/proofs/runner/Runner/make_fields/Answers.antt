@@ -1,4 +1,4 @@
-use Rattle.std.proofs.Common.{◌≡◌, ◌≢◌, ℕ, List, length, Option, Some, false, refl, sym, ap, ◌∙◌, subst}
+use Rattle.std.proofs.Common.{◌≡◌, ℕ, List, length, Option, Some, false, refl, sym, ap, ◌∙◌, subst}
 use Rattle.std.specs.Prelude.{unwrap_or, []}
 use Rattle.std.specs.List.{slice_get}
 use Rattle.std.specs.Option.{option_copied}
@@ -8,7 +8,10 @@ use Rattle.gc_types.specs.declared.value.FieldType.{FieldType}
 use Rattle.gc_types.specs.Declarations.{Declaration, TypeTable, fields_at}
 use Rattle.gc_values.specs.declared.request.Place.{Place}
 use Rattle.gc_values.specs.declared.request.Place.TheVariants as place
-use Rattle.gc_values.specs.declared.request.Contents.TheVariants as contents
+use Rattle.gc_values.specs.Filling.{each_of}
+use Rattle.gc_types.specs.declared.kind.Layouts.{Layouts}
+use Rattle.gc_model.specs.Stores.{StoreView}
+use Rattle.gc_commands.specs.declared.command.Operand.{Operand}
 use Rattle.gc_values.specs.declared.root.RawValue.{RawValue}
 use Rattle.gc_store.specs.Requests.{CanPlaceIn, CanPlaceFields, IsObjectOf}
 use Rattle.gc_store.specs.Values.{AllStand}
@@ -22,17 +25,17 @@ use Rattle.gc_script.specs.Shapes.{making}
 use Rattle.gc_script.specs.Steps.{first_failing, any_unset, all_value_tests, heap_tests}
 use Rattle.gc_script.specs.Requested.{class_of, type_of, requested, requested_fields, requested_tests}
 use Rattle.gc_script.specs.Named.{type_at}
-use Rattle.gc_script.specs.Values.{AreRegisters, set_operand, set_operands, AllHeld, AllPlain, AllRawStorable, typed_tests}
+use Rattle.gc_script.specs.Values.{AreRegisters, set_operand, set_operands, AllHeld, typed_tests}
 use Rattle.gc_script.proofs.CountLemmas.{mild_found, append_mild}
 use Rattle.gc_script.proofs.FieldRequests.{requested_types, fields_request, fields_unset, fields_count, fields_value, fields_heap, typed_by, refused_on, runs_on}
-use Rattle.gc_script.proofs.GoesLemmas.{wants_nothing, values_mild}
+use Rattle.gc_script.proofs.GoesLemmas.{values_mild}
 use Rattle.gc_script.proofs.OperandLemmas.{are_held}
-use Rattle.gc_script.proofs.ResultLemmas.{on_any_err, succeeded}
+use Rattle.gc_script.proofs.ResultLemmas.{on_any_err}
 use Rattle.gc_script.proofs.StandLemmas.{holds_table}
 use Rattle.gc_script.proofs.WantLemmas.{room_only, unrefused_by}
 use Rattle.gc_script.proofs.runner.Runner.make_fields.Given as given
 use Rattle.gc_script.proofs.runner.Runner.make_fields.Goals as goal
-use Rattle.gc_script.proofs.runner.Runner.make_fields.Goals.{After-any_unset, After-check_fields, After-give_values, After-as_slice}
+use Rattle.gc_script.proofs.runner.Runner.make_fields.Goals.{After-any_unset, After-check_fields, After-place}
 
 -- the fields of what is requested
 known : (g : given.Over) (c : After-any_unset g) → requested_fields c.args.store.now.types c.args.request ≡ Some c.in-Some.fields.now
@@ -94,67 +97,52 @@ returns-in-Err-clause-runs g c s holds =
     is
 
 -- what is left is up to the heap
-left : (g : given.Over) (c : After-give_values g) (s : State) → HoldsState g.H.GcHeap.KIND c.args.store.now c.args.self.now s → first_failing (requested_tests g.H.GcHeap.KIND s c.args.request c.args.operands.now) ≡ first_failing (heap_tests g.H.GcHeap.KIND s (requested c.args.request c.args.operands.now s))
+left : (g : given.Over) (c : After-place g) (s : State) → HoldsState g.H.GcHeap.KIND c.args.store.now c.args.self.now s → first_failing (requested_tests g.H.GcHeap.KIND s c.args.request c.args.operands.now) ≡ first_failing (heap_tests g.H.GcHeap.KIND s (requested c.args.request c.args.operands.now s))
 left g c s holds =
-    let after = (goal.at.After-give_values g c).After-check_fields in
+    let after = (goal.at.After-place g c).After-check_fields in
     let at = (goal.at.After-check_fields g after).After-any_unset in
     let checks = c.in_default-check_fields.ensures.checks (type_of c.args.request) (of_type g after) s c.args.operands.now (holds_table holds.table) (held g after s holds) in
     fields_heap s (requested_fields s.table.types c.args.request) c.args.operands.now (heap_tests g.H.GcHeap.KIND s (requested c.args.request c.args.operands.now s)) at.in-Some.fields.now (known_in g at s holds)
     (set g after s holds) (many g after) (sym (ap first_failing (typed g after s holds)) ∙ checks.0)
 
-pub returns-then-is_err-clause-runs : goal.returns-then-is_err-clause-runs
-returns-then-is_err-clause-runs g c s holds = wants_nothing _ _ _ s _ _ _ _ (subst (λ (r : RunnerView). HoldsState g.H.GcHeap.KIND c.args.store.now r s) (sym c.self.view_is) holds)
-
-pub returns-then-is_err-clause-cause : goal.returns-then-is_err-clause-cause
-returns-then-is_err-clause-cause g c s holds =
-    unrefused_by (first_failing (requested_tests g.H.GcHeap.KIND s c.args.request c.args.operands.now)) (first_failing (heap_tests g.H.GcHeap.KIND s (requested c.args.request c.args.operands.now s))) (left g (goal.at.returns-then-is_err-clause-cause g c).After-give_values s holds) (room_only _ _)
-
--- the values that are placed
-values_are : (g : given.Over) (c : After-as_slice g) → c.as_slice.result.now ≡ (set_operands c.self.inside.registers c.args.operands.now)
-values_are g c = c.as_slice.ensures.value ∙ succeeded c.give_values.result (sym c.is_err.ensures.value ∙ c.if-is_err.false) c.give_values.ensures
-
 -- what may be placed of a request with fields
-can_place : (g : given.Over) (c : After-as_slice g) (request : Place) (fields : List FieldType) → requested_fields c.args.store.now.types request ≡ Some fields
-    → CanPlaceFields ℕ g.H.GcHeap.KIND c.args.store.now (requested_fields c.args.store.now.types request) c.as_slice.result.now → CanPlaceIn ℕ g.H.GcHeap.KIND c.args.store.now request (contents.Each c.as_slice.result)
-can_place g c (place.Struct ty) fields e can = can
-can_place g c (place.Exn ty tag) fields e can = can
-can_place g c (place.Array ty n) fields e can = absurd (none-some fields e)
+can_place : (layouts : Layouts) (store : StoreView ℕ) (raws : List RawValue) (request : Place) (fields : List FieldType) → requested_fields store.types request ≡ Some fields
+    → CanPlaceFields ℕ layouts store (requested_fields store.types request) raws → CanPlaceIn ℕ layouts store request (each_of raws)
+can_place layouts store raws (place.Struct ty) fields e can = can
+can_place layouts store raws (place.Exn ty tag) fields e can = can
+can_place layouts store raws (place.Array ty n) fields e can = absurd (none-some fields e)
 
 -- and the object that it asks for
-asks_for : (g : given.Over) (c : After-as_slice g) (s : State) (request : Place) (fields : List FieldType) → requested_fields s.table.types request ≡ Some fields
-    → AllStand c.args.store.now s.table c.as_slice.result.now (given_values s c.args.operands.now) → IsObjectOf c.args.store.now s.table request (contents.Each c.as_slice.result) (requested request c.args.operands.now (visible s))
-asks_for g c s (place.Struct ty) fields e stand = (given_values s c.args.operands.now, (stand, refl))
-asks_for g c s (place.Exn ty tag) fields e stand = (given_values s c.args.operands.now, (stand, refl))
-asks_for g c s (place.Array ty n) fields e stand = absurd (none-some fields e)
+asks_for : (store : StoreView ℕ) (s : State) (vs : List Operand) (raws : List RawValue) (request : Place) (fields : List FieldType) → requested_fields s.table.types request ≡ Some fields
+    → AllStand store s.table raws (given_values s vs) → IsObjectOf store s.table request (each_of raws) (requested request vs (visible s))
+asks_for store s vs raws (place.Struct ty) fields e stand = (given_values s vs, (stand, refl))
+asks_for store s vs raws (place.Exn ty tag) fields e stand = (given_values s vs, (stand, refl))
+asks_for store s vs raws (place.Array ty n) fields e stand = absurd (none-some fields e)
 
 pub place-requires-clause-can : goal.place-requires-clause-can
 place-requires-clause-can g c =
-    let placed = (goal.at.place-requires-clause-can g c).After-as_slice in
     let after = (goal.at.place-requires-clause-can g c).After-check_fields in
     let at = (goal.at.After-check_fields g after).After-any_unset in
-    can_place g placed c.args.request at.in-Some.fields.now (known g at)
-    (subst (λ (raws : List RawValue). CanPlaceFields ℕ g.H.GcHeap.KIND c.args.store.now (requested_fields c.args.store.now.types c.args.request) raws) (sym (values_are g placed))
+    can_place g.H.GcHeap.KIND c.args.store.now (set_operands c.self.inside.registers c.args.operands.now) c.args.request at.in-Some.fields.now (known g at)
     (fields_request g.H.GcHeap.KIND c.args.store.now c.args.request (set_operands c.self.inside.registers c.args.operands.now) at.in-Some.fields.now (known g at) (length-map c.args.operands.now (set_operand c.self.inside.registers) ∙ many g after)
-    (c.in_default-check_fields.ensures.stores (type_of c.args.request) (of_type g after))))
+    (c.in_default-check_fields.ensures.stores (type_of c.args.request) (of_type g after)))
 
 pub place-requires-clause-plain : goal.place-requires-clause-plain
-place-requires-clause-plain g c =
-    subst AllPlain (sym (values_are g (goal.at.place-requires-clause-plain g c).After-as_slice)) c.in_default-check_fields.ensures.plain
+place-requires-clause-plain g c = c.in_default-check_fields.ensures.plain
 
 pub returns-clause-runs : goal.returns-clause-runs
 returns-clause-runs g c s holds =
-    let placed = (goal.at.returns-clause-runs g c).After-as_slice in
-    let given = (goal.at.returns-clause-runs g c).After-give_values in
-    let after = (goal.at.After-give_values g given).After-check_fields in
+    let placed = (goal.at.returns-clause-runs g c).After-place in
+    let after = (goal.at.After-place g placed).After-check_fields in
     let at = (goal.at.After-check_fields g after).After-any_unset in
     let checks = c.in_default-check_fields.ensures.checks (type_of c.args.request) (of_type g after) s c.args.operands.now (holds_table holds.table) (held g after s holds) in
-    let stand = subst (λ (raws : List RawValue). AllStand c.args.store.now s.table raws (given_values s c.args.operands.now)) (sym (values_are g placed)) checks.1 in
     runs_on g.H.GcHeap.KIND c.args.store.now.alloc_counter (g.L.ResourceLimiter.limits c.args.limiter.now) (g.L.ResourceLimiter.limits c.place.new.limiter) s (making c.args.d (class_of c.args.request) (requested c.args.request c.args.operands.now))
     (requested_tests g.H.GcHeap.KIND s c.args.request c.args.operands.now) (heap_tests g.H.GcHeap.KIND s (requested c.args.request c.args.operands.now s)) (answer_of c.place.result) c.place.new.store (with_registers c.place.new.registers (record { owned = c.self.inside.owned; marks = c.self.inside.marks.items }))
-    (left g given s holds)
-    (c.place.ensures.runs s (record { owned = c.self.inside.owned; marks = c.self.inside.marks.items }) (requested c.args.request c.args.operands.now) (subst (λ (r : RunnerView). HoldsState g.H.GcHeap.KIND c.args.store.now r s) (sym c.self.view_is) holds) (asks_for g placed s c.args.request at.in-Some.fields.now (known_in g at s holds) stand))
+    (left g placed s holds)
+    (c.place.ensures.runs s (record { owned = c.self.inside.owned; marks = c.self.inside.marks.items }) (requested c.args.request c.args.operands.now) (subst (λ (r : RunnerView). HoldsState g.H.GcHeap.KIND c.args.store.now r s) (sym c.self.view_is) holds)
+    (asks_for c.args.store.now s c.args.operands.now (set_operands c.self.inside.registers c.args.operands.now) c.args.request at.in-Some.fields.now (known_in g at s holds) checks.1))
 
 pub returns-clause-cause : goal.returns-clause-cause
 returns-clause-cause g c =
     on_any_err (answer_of c.place.result)
-    (λ s holds. unrefused_by (first_failing (requested_tests g.H.GcHeap.KIND s c.args.request c.args.operands.now)) (first_failing (heap_tests g.H.GcHeap.KIND s (requested c.args.request c.args.operands.now s))) (left g (goal.at.returns-clause-cause g c).After-give_values s holds) (room_only _ _))
+    (λ s holds. unrefused_by (first_failing (requested_tests g.H.GcHeap.KIND s c.args.request c.args.operands.now)) (first_failing (heap_tests g.H.GcHeap.KIND s (requested c.args.request c.args.operands.now s))) (left g (goal.at.returns-clause-cause g c).After-place s holds) (room_only _ _))

@@ -1,4 +1,4 @@
-use Rattle.std.proofs.Common.{◌≡◌, ℕ, List, Some, false, length, sym, ap, ◌∙◌, subst, refl, arith}
+use Rattle.std.proofs.Common.{◌≡◌, ℕ, List, Some, false, sym, ap, ◌∙◌, subst, refl, arith}
 use Rattle.std.specs.Option.{option_copied}
 use Rattle.gc_types.specs.Declarations.{Declaration, elem_at}
 use Rattle.gc_types.specs.declared.types.Types.{Types}
@@ -17,22 +17,19 @@ use Rattle.gc_script.specs.State.{State, HoldsState}
 use Rattle.gc_script.specs.Given.{given, given_value, given_values}
 use Rattle.gc_script.specs.Shapes.{new_fixed}
 use Rattle.gc_script.specs.Run.{RunsOne}
-use Rattle.gc_script.specs.Values.{AreRegisters, set_operand, set_operands, AllHeld, AllPlain, AllRawStorable}
-use Rattle.gc_script.specs.declared.objects.ValueTypes.TheVariants as types_of
+use Rattle.gc_script.specs.Values.{AreRegisters, set_operand, set_operands, AllHeld}
 use Rattle.gc_script.proofs.StandLemmas.{holds_table, register_held}
-use Rattle.gc_script.proofs.GoesLemmas.{wants_nothing, refused_runs}
+use Rattle.gc_script.proofs.GoesLemmas.{refused_runs}
 use Rattle.gc_script.proofs.MakeTests.{runs_rest, fixed_unset, fixed_refused, fixed_heap}
 use Rattle.gc_script.proofs.RequestLemmas.{elements_request, many_refused}
 use Rattle.gc_script.specs.Steps.{any_unset, tests, first_failing, heap_tests}
 use Rattle.gc_script.specs.Wants.{MayWant}
-use Rattle.gc_store.specs.Values.{AllStand}
-use Rattle.gc_values.specs.declared.root.RawValue.{RawValue}
 use Rattle.gc_script.proofs.OperandLemmas.{are_held}
-use Rattle.gc_script.proofs.ResultLemmas.{on_any_err, succeeded}
+use Rattle.gc_script.proofs.ResultLemmas.{on_any_err}
 use Rattle.gc_script.proofs.WantLemmas.{room_may}
 use Rattle.gc_script.proofs.runner.Runner.make_fixed.Given as given
 use Rattle.gc_script.proofs.runner.Runner.make_fixed.Goals as goal
-use Rattle.gc_script.proofs.runner.Runner.make_fixed.Goals.{After-any_unset, After-check_elements, After-give_values, After-as_slice}
+use Rattle.gc_script.proofs.runner.Runner.make_fixed.Goals.{After-any_unset, After-check_elements, After-place}
 
 -- the type of its elements, in each table that the store holds
 known : (g : given.Over) (c : After-any_unset g) (types : List Declaration) → c.args.store.now.types ≡ types → elem_at types c.new-ty.result ≡ Some c.in-Some.element.now
@@ -78,51 +75,37 @@ returns-in_default-try_from-clause-runs g c s holds =
     ∙ many_refused g.H.GcHeap.KIND s c.new-ty.result (map (stored (element_of s.table.types c.new-ty.result)) (given_values s c.args.operands.now)) c.in-Some.element.now declared (omega (arith, c.in_default-try_from.ensures, length-map (given_values s c.args.operands.now) (stored (element_of s.table.types c.new-ty.result)), length-map c.args.operands.now (λ (v : Operand). given_value (given s v))))))
 
 -- what is left is up to the heap
-left : (g : given.Over) (c : After-give_values g) (s : State) → HoldsState g.H.GcHeap.KIND c.args.store.now c.args.self.now s → first_failing (tests g.H.GcHeap.KIND s (Fixed c.args.d c.new-ty.result c.args.operands.now)) ≡ first_failing (heap_tests g.H.GcHeap.KIND s (new_fixed s c.new-ty.result c.args.operands.now))
+left : (g : given.Over) (c : After-place g) (s : State) → HoldsState g.H.GcHeap.KIND c.args.store.now c.args.self.now s → first_failing (tests g.H.GcHeap.KIND s (Fixed c.args.d c.new-ty.result c.args.operands.now)) ≡ first_failing (heap_tests g.H.GcHeap.KIND s (new_fixed s c.new-ty.result c.args.operands.now))
 left g c s holds =
-    let after = (goal.at.After-give_values g c).After-check_elements in
+    let after = (goal.at.After-place g c).After-check_elements in
     let at = (goal.at.After-check_elements g after).After-any_unset in
     fixed_heap g.H.GcHeap.KIND s c.args.d c.new-ty.result c.args.operands.now c.in-Some.element.now (known g at s.table.types holds.table.holds.types) (set g after s holds)
     (c.in_default-check_elements.ensures.checks s c.args.operands.now (holds_table holds.table) (held g after s holds)).0
 
-may : (g : given.Over) (c : After-give_values g) (s : State) → HoldsState g.H.GcHeap.KIND c.args.store.now c.args.self.now s → MayWant g.H.GcHeap.KIND s (Fixed c.args.d c.args.t c.args.operands.now)
+may : (g : given.Over) (c : After-place g) (s : State) → HoldsState g.H.GcHeap.KIND c.args.store.now c.args.self.now s → MayWant g.H.GcHeap.KIND s (Fixed c.args.d c.args.t c.args.operands.now)
 may g c s holds =
     subst (λ (ty : ℕ). MayWant g.H.GcHeap.KIND s (Fixed c.args.d ty c.args.operands.now)) c.new-ty.ensures (room_may g.H.GcHeap.KIND s (Fixed c.args.d c.new-ty.result c.args.operands.now) (new_fixed s c.new-ty.result c.args.operands.now) refl (left g c s holds))
 
-pub returns-then-is_err-clause-runs : goal.returns-then-is_err-clause-runs
-returns-then-is_err-clause-runs g c s holds = record { wants = wants_nothing _ _ _ s _ _ _ _ (subst (λ (r : RunnerView). HoldsState g.H.GcHeap.KIND c.args.store.now r s) (sym c.self.view_is) holds) }
-
-pub returns-then-is_err-clause-cause : goal.returns-then-is_err-clause-cause
-returns-then-is_err-clause-cause g c s holds = may g (goal.at.returns-then-is_err-clause-cause g c).After-give_values s holds
-
--- the values that are placed
-values_are : (g : given.Over) (c : After-as_slice g) → c.as_slice.result.now ≡ (set_operands c.self.inside.registers c.args.operands.now)
-values_are g c = c.as_slice.ensures.value ∙ succeeded c.give_values.result (sym c.is_err.ensures.value ∙ c.if-is_err.false) c.give_values.ensures
-
 pub place-requires-clause-can : goal.place-requires-clause-can
 place-requires-clause-can g c =
-    let placed = (goal.at.place-requires-clause-can g c).After-as_slice in
     let at = (goal.at.place-requires-clause-can g c).After-any_unset in
-    elements_request g.H.GcHeap.KIND c.args.store.now c.new-ty.result c.in-Ok.len c.as_slice.result.now c.in-Some.element.now (known g at c.args.store.now.types refl)
-    (ap length (values_are g placed) ∙ length-map c.args.operands.now (set_operand c.self.inside.registers) ∙ sym c.in-Ok.ensures.1)
-    (subst (AllRawStorable g.H.GcHeap.KIND c.args.store.now (types_of.Elements c.in-Some.element.now)) (sym (values_are g placed)) c.in_default-check_elements.ensures.stores)
+    elements_request g.H.GcHeap.KIND c.args.store.now c.new-ty.result c.in-Ok.len (set_operands c.self.inside.registers c.args.operands.now) c.in-Some.element.now (known g at c.args.store.now.types refl)
+    (length-map c.args.operands.now (set_operand c.self.inside.registers) ∙ sym c.in-Ok.ensures.1)
+    c.in_default-check_elements.ensures.stores
 
 pub place-requires-clause-plain : goal.place-requires-clause-plain
-place-requires-clause-plain g c =
-    subst AllPlain (sym (values_are g (goal.at.place-requires-clause-plain g c).After-as_slice)) c.in_default-check_elements.ensures.plain
+place-requires-clause-plain g c = c.in_default-check_elements.ensures.plain
 
 pub returns-clause-runs : goal.returns-clause-runs
 returns-clause-runs g c s holds =
-    let placed = (goal.at.returns-clause-runs g c).After-as_slice in
-    let given = (goal.at.returns-clause-runs g c).After-give_values in
-    let after = (goal.at.After-give_values g given).After-check_elements in
+    let placed = (goal.at.returns-clause-runs g c).After-place in
+    let after = (goal.at.After-place g placed).After-check_elements in
     let checks = c.in_default-check_elements.ensures.checks s c.args.operands.now (holds_table holds.table) (held g after s holds) in
-    let stand = subst (λ (raws : List RawValue). AllStand c.args.store.now s.table raws (given_values s c.args.operands.now)) (sym (values_are g placed)) checks.1 in
     subst (λ (ty : ℕ). RunsOne g.H.GcHeap.KIND c.args.store.now.alloc_counter (g.L.ResourceLimiter.limits c.args.limiter.now) (g.L.ResourceLimiter.limits c.place.new.limiter) s (Fixed c.args.d ty c.args.operands.now) (answer_of c.place.result) c.place.new.store (with_registers c.place.new.registers (record { owned = c.self.inside.owned; marks = c.self.inside.marks.items }))) c.new-ty.ensures
     (runs_rest g.H.GcHeap.KIND c.args.store.now.alloc_counter (g.L.ResourceLimiter.limits c.args.limiter.now) (g.L.ResourceLimiter.limits c.place.new.limiter) s (Fixed c.args.d c.new-ty.result c.args.operands.now)
     (heap_tests g.H.GcHeap.KIND s (new_fixed s c.new-ty.result c.args.operands.now)) (answer_of c.place.result) c.place.new.store (with_registers c.place.new.registers (record { owned = c.self.inside.owned; marks = c.self.inside.marks.items }))
-    (left g given s holds)
-    (c.place.ensures.runs s (record { owned = c.self.inside.owned; marks = c.self.inside.marks.items }) (λ (x : State). new_fixed x c.new-ty.result c.args.operands.now) (subst (λ (r : RunnerView). HoldsState g.H.GcHeap.KIND c.args.store.now r s) (sym c.self.view_is) holds) (given_values s c.args.operands.now, (stand, refl))))
+    (left g placed s holds)
+    (c.place.ensures.runs s (record { owned = c.self.inside.owned; marks = c.self.inside.marks.items }) (λ (x : State). new_fixed x c.new-ty.result c.args.operands.now) (subst (λ (r : RunnerView). HoldsState g.H.GcHeap.KIND c.args.store.now r s) (sym c.self.view_is) holds) (given_values s c.args.operands.now, (checks.1, refl))))
 
 pub returns-clause-cause : goal.returns-clause-cause
-returns-clause-cause g c = on_any_err (answer_of c.place.result) (may g (goal.at.returns-clause-cause g c).After-give_values)
+returns-clause-cause g c = on_any_err (answer_of c.place.result) (may g (goal.at.returns-clause-cause g c).After-place)

@@ -47,12 +47,12 @@ use Rattle.gc_store.proofs.SpareLemmas.{reserves_more, can_roomy, asked_roomy}
 abbrev view : (g : given.Over) (c : After-is_ready g) → StoreView g.row.D.Denot
 view g c = store_view c.self.inside.id c.self.inside.config (tables_of c.self.inside.interned c.self.inside.asked) c.self.inside.owner.seen c.self.inside.tries
 
-fits_view : (g : given.Over) (c : After-is_ready g) → CanPlaceIn g.row.D.Denot g.H.GcHeap.KIND (view g c) c.args.request c.args.contents
-fits_view g c = subst (λ (x : StoreView g.row.D.Denot). CanPlaceIn g.row.D.Denot g.H.GcHeap.KIND x c.args.request c.args.contents) (sym c.self.view_is) c.requires
+fits_view : (g : given.Over) (c : After-is_ready g) → CanPlaceIn g.row.D.Denot g.H.GcHeap.KIND (view g c) c.args.request (g.C.ContentSource.contents c.args.contents)
+fits_view g c = subst (λ (x : StoreView g.row.D.Denot). CanPlaceIn g.row.D.Denot g.H.GcHeap.KIND x c.args.request (g.C.ContentSource.contents c.args.contents)) (sym c.self.view_is) c.requires
 
 -- the size of what is requested
-size_at : (g : given.Over) (c : After-is_ready g) → Sized g.H.GcHeap.KIND (view g c) c.args.request c.args.contents
-size_at g c = sized g.row.D.Denot g.H.GcHeap.KIND (view g c) c.self.invariant.table c.self.invariant.holds.place c.self.invariant.holds.holds c.args.request c.args.contents (fits_view g c)
+size_at : (g : given.Over) (c : After-is_ready g) → Sized g.H.GcHeap.KIND (view g c) c.args.request (g.C.ContentSource.contents c.args.contents)
+size_at g c = sized g.row.D.Denot g.H.GcHeap.KIND (view g c) c.self.invariant.table c.self.invariant.holds.place c.self.invariant.holds.holds c.args.request (g.C.ContentSource.contents c.args.contents) (fits_view g c)
 
 pub object_size-requires : goal.object_size-requires
 object_size-requires g c =
@@ -66,20 +66,20 @@ ready g c t a holds = record { heap = c.is_ready.ensures.heap; can = c.is_ready.
 held : (g : given.Over) (c : After-is_ready g) (t : Table g.row.D.Denot) (a : Account) → HoldsAccount g.H.GcHeap.KIND c.args.self.now t a → HoldsAccount g.H.GcHeap.KIND (view g c) t a
 held g c t a holds = subst (λ (s : StoreView g.row.D.Denot). HoldsAccount g.H.GcHeap.KIND s t a) (sym c.self.view_is) holds
 
-asked_view : (g : given.Over) (c : After-is_ready g) (t : Table g.row.D.Denot) (o : Object g.row.D.Denot) → IsObjectOf c.args.self.now t c.args.request c.args.contents o → IsObjectOf (view g c) t c.args.request c.args.contents o
-asked_view g c t o is = subst (λ (s : StoreView g.row.D.Denot). IsObjectOf s t c.args.request c.args.contents o) (sym c.self.view_is) is
+asked_view : (g : given.Over) (c : After-is_ready g) (t : Table g.row.D.Denot) (o : Object g.row.D.Denot) → IsObjectOf c.args.self.now t c.args.request (g.C.ContentSource.contents c.args.contents) o → IsObjectOf (view g c) t c.args.request (g.C.ContentSource.contents c.args.contents) o
+asked_view g c t o is = subst (λ (s : StoreView g.row.D.Denot). IsObjectOf s t c.args.request (g.C.ContentSource.contents c.args.contents) o) (sym c.self.view_is) is
 
 -- what was given, and the room that was made for its function values and continuations
 abbrev given_of : (g : given.Over) (c : After-is_ready g) → SideValues
-given_of g c = raw_side_values (request_values c.args.request c.args.contents)
+given_of g c = raw_side_values (request_values c.args.request (g.C.ContentSource.contents c.args.contents))
 
-given_is : (g : given.Over) (c : After-find_room g) → raw_side_values c.given_values-given.result.now ≡ given_of g (goal.at.After-find_room g c).After-is_ready
-given_is g c = ap raw_side_values c.given_values-given.ensures
+given_is : (g : given.Over) (c : After-find_room g) → raw_side_values c.side_values-given.result.now ≡ given_of g (goal.at.After-find_room g c).After-is_ready
+given_is g c = c.side_values-given.ensures
 
-side_values_are : (g : given.Over) (c : After-is_ready g) (t : Table g.row.D.Denot) (place : Placing) (o : Object g.row.D.Denot) → Holds g.H.GcHeap.KIND (view g c) t place → IsObjectOf (view g c) t c.args.request c.args.contents o
+side_values_are : (g : given.Over) (c : After-is_ready g) (t : Table g.row.D.Denot) (place : Placing) (o : Object g.row.D.Denot) → Holds g.H.GcHeap.KIND (view g c) t place → IsObjectOf (view g c) t c.args.request (g.C.ContentSource.contents c.args.contents) o
     → (known : SideValues) → with_side_values (given_of g c) known ≡ with_side_values (side_values (object_values o)) known
 side_values_are g c t place o holds is =
-    asked_side_values g.row.D.Denot g.H.GcHeap.KIND (view g c) c.self.invariant.table c.self.invariant.holds.place c.self.invariant.holds.holds c.args.request c.args.contents (fits_view g c) t place o holds is
+    asked_side_values g.row.D.Denot g.H.GcHeap.KIND (view g c) c.self.invariant.table c.self.invariant.holds.place c.self.invariant.holds.holds c.args.request (g.C.ContentSource.contents c.args.contents) (fits_view g c) t place o holds is
 
 room_made : (g : given.Over) (c : After-object_size g) → MakesRooms c.self.inside.interned c.find_room.new.interned (given_of g (goal.at.After-object_size g c).After-is_ready)
 room_made g c = subst (MakesRooms c.self.inside.interned c.find_room.new.interned) (given_is g (goal.at.After-object_size g c).After-find_room) c.in_ok-find_room.ensures
@@ -92,7 +92,7 @@ ids_left : (g : given.Over) (c : After-object_size g) → HaveAllIdsLeft (ids_of
 ids_left g c = rooms_left c.self.inside.interned c.find_room.new.interned (given_of g (goal.at.After-object_size g c).After-is_ready) (room_made g c)
 
 has_ids : (g : given.Over) (c : After-object_size g) (t : Table g.row.D.Denot) (place : Placing) (o : Object g.row.D.Denot) → Holds g.H.GcHeap.KIND (view g (goal.at.After-object_size g c).After-is_ready) t place
-    → IsObjectOf (view g (goal.at.After-object_size g c).After-is_ready) t c.args.request c.args.contents o → HasIds o t
+    → IsObjectOf (view g (goal.at.After-object_size g c).After-is_ready) t c.args.request (g.C.ContentSource.contents c.args.contents) o → HasIds o t
 has_ids g c t place o holds is =
     left_ids t o (given_of g (goal.at.After-object_size g c).After-is_ready) (side_values_are g (goal.at.After-object_size g c).After-is_ready t place o holds is t.interned) (ids_of c.self.inside.interned) holds.interned (ids_left g c)
 
@@ -110,7 +110,7 @@ returns-in_err-find_room-clause-places g c t a o holds asked =
     let after : StoreView g.row.D.Denot = store_view c.self.inside.id c.self.inside.config (tables_of c.find_room.new.interned c.self.inside.asked) c.self.inside.owner.seen c.self.inside.tries in
     subst (λ (r : Result GcRootIndex PlaceFault). Places g.H.GcHeap.KIND c.args.self.now.alloc_counter o (policy_state t a (g.L.ResourceLimiter.limits c.args.limiter.now)) (g.L.ResourceLimiter.limits c.args.limiter.now) r after)
     (sym (same_err c.from_residual.result fault c.from_residual.ensures.1))
-    (refused_ids g.H.GcHeap.KIND c.args.self.now.alloc_counter (view g first) t a (g.L.ResourceLimiter.limits c.args.limiter.now) before o (raw_side_values c.given_values-given.result.now)
+    (refused_ids g.H.GcHeap.KIND c.args.self.now.alloc_counter (view g first) t a (g.L.ResourceLimiter.limits c.args.limiter.now) before o (raw_side_values c.side_values-given.result.now)
     (ap (λ (given : SideValues). with_side_values given t.interned) (given_is g room) ∙ side_values_are g first t before.place o before.holds (asked_view g first t o asked) t.interned)
     c.self.inside.interned c.find_room.new.interned refl fault c.in_err-find_room.ensures)
 
@@ -167,15 +167,15 @@ returns-then-is_err-clause-places g c t a o holds asked =
 abbrev store_now : (g : given.Over) (c : After-is_err g) → StoreView g.row.D.Denot
 store_now g c = shown (view g (first_of g c)) (now g c)
 
-can : (g : given.Over) (c : After-is_err g) → CanPlaceIn g.row.D.Denot g.H.GcHeap.KIND (store_now g c) c.args.request c.args.contents
+can : (g : given.Over) (c : After-is_err g) → CanPlaceIn g.row.D.Denot g.H.GcHeap.KIND (store_now g c) c.args.request (g.C.ContentSource.contents c.args.contents)
 can g c =
-    subst (λ (v : OwnerView g.row.D.Denot). CanPlaceIn g.row.D.Denot g.H.GcHeap.KIND (shown (view g (first_of g c)) v) c.args.request c.args.contents) (sym c.reserve.ensures.rest)
-    (can_roomy g.H.GcHeap.KIND (view g (first_of g c)) (now g c).roots.spare c.args.request c.args.contents (fits_view g (first_of g c)))
+    subst (λ (v : OwnerView g.row.D.Denot). CanPlaceIn g.row.D.Denot g.H.GcHeap.KIND (shown (view g (first_of g c)) v) c.args.request (g.C.ContentSource.contents c.args.contents)) (sym c.reserve.ensures.rest)
+    (can_roomy g.H.GcHeap.KIND (view g (first_of g c)) (now g c).roots.spare c.args.request (g.C.ContentSource.contents c.args.contents) (fits_view g (first_of g c)))
 
-asked_now : (g : given.Over) (c : After-is_err g) (t : Table g.row.D.Denot) (o : Object g.row.D.Denot) → IsObjectOf (view g (first_of g c)) t c.args.request c.args.contents o → IsObjectOf (store_now g c) t c.args.request c.args.contents o
+asked_now : (g : given.Over) (c : After-is_err g) (t : Table g.row.D.Denot) (o : Object g.row.D.Denot) → IsObjectOf (view g (first_of g c)) t c.args.request (g.C.ContentSource.contents c.args.contents) o → IsObjectOf (store_now g c) t c.args.request (g.C.ContentSource.contents c.args.contents) o
 asked_now g c t o is =
-    subst (λ (v : OwnerView g.row.D.Denot). IsObjectOf (shown (view g (first_of g c)) v) t c.args.request c.args.contents o) (sym c.reserve.ensures.rest)
-    (asked_roomy g.H.GcHeap.KIND (view g (first_of g c)) (now g c).roots.spare t c.args.request c.args.contents o is)
+    subst (λ (v : OwnerView g.row.D.Denot). IsObjectOf (shown (view g (first_of g c)) v) t c.args.request (g.C.ContentSource.contents c.args.contents) o) (sym c.reserve.ensures.rest)
+    (asked_roomy g.H.GcHeap.KIND (view g (first_of g c)) (now g c).roots.spare t c.args.request (g.C.ContentSource.contents c.args.contents) o is)
 
 -- what the size is said to be, for each size by the types
 tells : (g : given.Over) (c : After-is_err g) (size : ℕ) → IsSizeOf g.H.GcHeap.KIND (now g c).types.declarations c.args.request size → (c.in-Some.size ≡ size) × (too_large g.H.GcHeap.KIND size ≡ false)
@@ -189,18 +189,18 @@ start_of g c = reserved g c c.self.invariant.table c.self.invariant.account c.se
 few : (g : given.Over) (c : After-is_err g) → IsCounted c.args.request
 few g c =
     let holds = (start_of g c).holds in
-    let is = sized g.row.D.Denot g.H.GcHeap.KIND (store_now g c) c.self.invariant.table holds.place holds.holds c.args.request c.args.contents (can g c) in
+    let is = sized g.row.D.Denot g.H.GcHeap.KIND (store_now g c) c.self.invariant.table holds.place holds.holds c.args.request (g.C.ContentSource.contents c.args.contents) (can g c) in
     few_elements g.H.GcHeap.KIND (now g c).types.declarations c.args.request is.size is.is_size (tells g c is.size is.is_size).1
 
 -- what is made
 abbrev new : (g : given.Over) (c : After-is_err g) → IsNew g.row.D.Denot g.H.GcHeap.KIND (now g c).types.declarations c.args.request
-new g c = new_of g.row.D.Denot g.H.GcHeap.KIND (store_now g c) c.args.request c.args.contents (few g c) (can g c)
+new g c = new_of g.row.D.Denot g.H.GcHeap.KIND (store_now g c) c.args.request (g.C.ContentSource.contents c.args.contents) (few g c) (can g c)
 
 abbrev size : (g : given.Over) (c : After-is_err g) → ℕ
 size g c = shape_size g.H.GcHeap.KIND (new g c).shape (new g c).count
 
-asked_of : (g : given.Over) (c : After-is_err g) (t : Table g.row.D.Denot) (p : Placing) → Holds g.H.GcHeap.KIND (store_now g c) t p → Asks g.H.GcHeap.KIND (store_now g c) t c.args.request c.args.contents (new g c)
-asked_of g c t p holds = asks g.row.D.Denot g.H.GcHeap.KIND (store_now g c) t p holds c.args.request c.args.contents (few g c) (can g c)
+asked_of : (g : given.Over) (c : After-is_err g) (t : Table g.row.D.Denot) (p : Placing) → Holds g.H.GcHeap.KIND (store_now g c) t p → Asks g.H.GcHeap.KIND (store_now g c) t c.args.request (g.C.ContentSource.contents c.args.contents) (new g c)
+asked_of g c t p holds = asks g.row.D.Denot g.H.GcHeap.KIND (store_now g c) t p holds c.args.request (g.C.ContentSource.contents c.args.contents) (few g c) (can g c)
 
 told : (g : given.Over) (c : After-is_err g) → (c.in-Some.size ≡ size g c) × (too_large g.H.GcHeap.KIND (size g c) ≡ false)
 told g c = tells g c (size g c) (new g c).is_size
@@ -211,14 +211,14 @@ room g c =
     ap (λ (v : OwnerView g.row.D.Denot). is_full (shown (view g (first_of g c)) v)) c.reserve.ensures.rest ∙ ap is_full c.self.view_is ∙ sym c.roots_full-is_full.ensures ∙ c.if-is_full.false
 
 -- the function values of what is asked, with room for one more root
-side_values_now : (g : given.Over) (c : After-is_err g) (t : Table g.row.D.Denot) (place : Placing) (o : Object g.row.D.Denot) → Holds g.H.GcHeap.KIND (store_now g c) t place → IsObjectOf (store_now g c) t c.args.request c.args.contents o
-    → (known : SideValues) → with_side_values (raw_side_values (request_values c.args.request c.args.contents)) known ≡ with_side_values (side_values (object_values o)) known
+side_values_now : (g : given.Over) (c : After-is_err g) (t : Table g.row.D.Denot) (place : Placing) (o : Object g.row.D.Denot) → Holds g.H.GcHeap.KIND (store_now g c) t place → IsObjectOf (store_now g c) t c.args.request (g.C.ContentSource.contents c.args.contents) o
+    → (known : SideValues) → with_side_values (raw_side_values (request_values c.args.request (g.C.ContentSource.contents c.args.contents))) known ≡ with_side_values (side_values (object_values o)) known
 side_values_now g c t place o holds is =
-    asked_side_values g.row.D.Denot g.H.GcHeap.KIND (store_now g c) c.self.invariant.table (start_of g c).holds.place (start_of g c).holds.holds c.args.request c.args.contents (can g c) t place o holds is
+    asked_side_values g.row.D.Denot g.H.GcHeap.KIND (store_now g c) c.self.invariant.table (start_of g c).holds.place (start_of g c).holds.holds c.args.request (g.C.ContentSource.contents c.args.contents) (can g c) t place o holds is
 
-has_ids_now : (g : given.Over) (c : After-is_err g) (t : Table g.row.D.Denot) (place : Placing) (o : Object g.row.D.Denot) → Holds g.H.GcHeap.KIND (store_now g c) t place → IsObjectOf (store_now g c) t c.args.request c.args.contents o → HasIds o t
+has_ids_now : (g : given.Over) (c : After-is_err g) (t : Table g.row.D.Denot) (place : Placing) (o : Object g.row.D.Denot) → Holds g.H.GcHeap.KIND (store_now g c) t place → IsObjectOf (store_now g c) t c.args.request (g.C.ContentSource.contents c.args.contents) o → HasIds o t
 has_ids_now g c t place o holds is =
-    left_ids t o (raw_side_values (request_values c.args.request c.args.contents)) (side_values_now g c t place o holds is t.interned) (ids_of c.self.inside.interned) holds.interned (ids_left g (goal.at.After-is_err g c).After-object_size)
+    left_ids t o (raw_side_values (request_values c.args.request (g.C.ContentSource.contents c.args.contents))) (side_values_now g c t place o holds is t.interned) (ids_of c.self.inside.interned) holds.interned (ids_left g (goal.at.After-is_err g c).After-object_size)
 
 -- what was made, where the owner stood in one state and came to another
 abbrev start : (g : given.Over) (c : After-make_object g) → OwnerState g.row.D.Denot
@@ -296,10 +296,10 @@ intern_all-requires g c =
     subst (CanInternAll c.find_room.new.interned) (sym (given_is g (goal.at.After-object_size g at).After-find_room))
     (rooms_can c.self.inside.interned c.find_room.new.interned (given_of g (goal.at.After-object_size g at).After-is_ready) (room_made g at) c.self.invariant.table.interned c.self.invariant.holds.holds.interned)
 
-interned : (g : given.Over) (c : After-holder_of-holder g) → InternsAll (ids_of c.self.inside.interned) (ids_of c.intern_all.new.interned) (raw_side_values (request_values c.args.request c.args.contents))
+interned : (g : given.Over) (c : After-holder_of-holder g) → InternsAll (ids_of c.self.inside.interned) (ids_of c.intern_all.new.interned) (raw_side_values (request_values c.args.request (g.C.ContentSource.contents c.args.contents)))
 interned g c =
     let at = sized_of g (goal.at.After-holder_of-holder g c).In-Ok in
-    subst (λ (ids : InternedIds). InternsAll ids (ids_of c.intern_all.new.interned) (raw_side_values (request_values c.args.request c.args.contents))) (same_ids g at)
+    subst (λ (ids : InternedIds). InternsAll ids (ids_of c.intern_all.new.interned) (raw_side_values (request_values c.args.request (g.C.ContentSource.contents c.args.contents)))) (same_ids g at)
     (subst (InternsAll (ids_of c.find_room.new.interned) (ids_of c.intern_all.new.interned)) (given_is g (goal.at.After-object_size g at).After-find_room) c.intern_all.ensures)
 
 pub fill-requires-clause-idle : goal.fill-requires-clause-idle
@@ -315,16 +315,16 @@ abbrev err_at : (g : given.Over) (c : After-holder_of-holder g) → After-is_err
 err_at g c = err_of g (made_of g (goal.at.After-holder_of-holder g c).In-Ok)
 
 fills_of : (g : given.Over) (c : After-holder_of-holder g)
-    → IsToFill g.H.GcHeap.KIND c.make_object.new.owner.seen c.holder_of-holder.result (asked_type c.args.request) (ContentsFit (ids_of c.intern_all.new.interned) c.args.request c.args.contents) (new g (err_at g c)).blank (new g (err_at g c)).shape (new g (err_at g c)).count
+    → IsToFill g.H.GcHeap.KIND c.make_object.new.owner.seen c.holder_of-holder.result (asked_type c.args.request) (ContentsFit (ids_of c.intern_all.new.interned) c.args.request (g.C.ContentSource.contents c.args.contents)) (new g (err_at g c)).blank (new g (err_at g c)).shape (new g (err_at g c)).count
 fills_of g c =
     let ok = (goal.at.After-holder_of-holder g c).In-Ok in
     let err = err_at g c in
     let p = in_ok g ok in
     let is = start_of g err in
-    subst (λ (n : ℕ). IsToFill g.H.GcHeap.KIND c.make_object.new.owner.seen n (asked_type c.args.request) (ContentsFit (ids_of c.intern_all.new.interned) c.args.request c.args.contents) (new g err).blank (new g err).shape (new g err).count) (sym (holder_is g c))
-    (may_fill g.H.GcHeap.KIND (view g (first_of g err)) c.reserve.new.self.seen c.args.request c.args.contents (new g err) (g.L.ResourceLimiter.limits c.args.limiter.now) c.self.invariant.table c.self.invariant.account is
+    subst (λ (n : ℕ). IsToFill g.H.GcHeap.KIND c.make_object.new.owner.seen n (asked_type c.args.request) (ContentsFit (ids_of c.intern_all.new.interned) c.args.request (g.C.ContentSource.contents c.args.contents)) (new g err).blank (new g err).shape (new g err).count) (sym (holder_is g c))
+    (may_fill g.H.GcHeap.KIND (view g (first_of g err)) c.reserve.new.self.seen c.args.request (g.C.ContentSource.contents c.args.contents) (new g err) (g.L.ResourceLimiter.limits c.args.limiter.now) c.self.invariant.table c.self.invariant.account is
     (asked_of g err c.self.invariant.table is.holds.place is.holds.holds) (ids_of c.intern_all.new.interned)
-    (interned_ids (ids_of c.self.inside.interned) (ids_of c.intern_all.new.interned) (raw_side_values (request_values c.args.request c.args.contents)) c.self.invariant.table.interned c.self.invariant.holds.holds.interned (interned g c))
+    (interned_ids (ids_of c.self.inside.interned) (ids_of c.intern_all.new.interned) (raw_side_values (request_values c.args.request (g.C.ContentSource.contents c.args.contents))) c.self.invariant.table.interned c.self.invariant.holds.holds.interned (interned g c))
     c.count_allocation-is_due.result p.0 p.1.0 (made_state g (made_of g ok)) c.in-Ok.index p.1.1)
 
 pub fill-requires-clause-can : goal.fill-requires-clause-can
@@ -350,12 +350,12 @@ abbrev last_state : (g : given.Over) (c : After-fill g) → OwnerState g.row.D.D
 last_state g c = state_of c.fill.new.owner.seen (g.L.ResourceLimiter.limits c.make_object.new.limiter)
 
 filled : (g : given.Over) (c : After-fill g)
-    → FillsBy g.H.GcHeap.KIND (front_of g.H.GcHeap.KIND c.args.request (new g (err_at g (holder_at g c))).shape) (ContentsStand (ids_of c.intern_all.new.interned) c.args.contents) c.make_object.new.owner.seen c.fill.new.owner.seen c.holder_of-holder.result (new g (err_at g (holder_at g c))).blank (new g (err_at g (holder_at g c))).shape (new g (err_at g (holder_at g c))).count
+    → FillsBy g.H.GcHeap.KIND (front_of g.H.GcHeap.KIND c.args.request (new g (err_at g (holder_at g c))).shape) (ContentsStand (ids_of c.intern_all.new.interned) (g.C.ContentSource.contents c.args.contents)) c.make_object.new.owner.seen c.fill.new.owner.seen c.holder_of-holder.result (new g (err_at g (holder_at g c))).blank (new g (err_at g (holder_at g c))).shape (new g (err_at g (holder_at g c))).count
 filled g c =
     let err = err_at g (holder_at g c) in
     c.fill.ensures (new g err).blank (new g err).shape (new g err).count (fills_of g (holder_at g c))
 
-created : (g : given.Over) (c : After-fill g) → Creates g.H.GcHeap.KIND (now g (err_at g (holder_at g c))).types.declarations (ids_of c.intern_all.new.interned) c.args.request c.args.contents (new g (err_at g (holder_at g c))) (in_ok g (ok_at g c)).0 (last_state g c) c.in-Ok.index
+created : (g : given.Over) (c : After-fill g) → Creates g.H.GcHeap.KIND (now g (err_at g (holder_at g c))).types.declarations (ids_of c.intern_all.new.interned) c.args.request (g.C.ContentSource.contents c.args.contents) (new g (err_at g (holder_at g c))) (in_ok g (ok_at g c)).0 (last_state g c) c.in-Ok.index
 created g c =
     let err = err_at g (holder_at g c) in
     let p = in_ok g (ok_at g c) in
@@ -364,7 +364,7 @@ created g c =
       retried = p.1.1.retried;
       added = c.make_object.new.owner.seen;
       adds = p.1.1.adds;
-      fills = subst (λ (n : ℕ). FillsBy g.H.GcHeap.KIND (front_of g.H.GcHeap.KIND c.args.request (new g err).shape) (ContentsStand (ids_of c.intern_all.new.interned) c.args.contents) c.make_object.new.owner.seen c.fill.new.owner.seen n (new g err).blank (new g err).shape (new g err).count) (holder_is g (holder_at g c)) (filled g c);
+      fills = subst (λ (n : ℕ). FillsBy g.H.GcHeap.KIND (front_of g.H.GcHeap.KIND c.args.request (new g err).shape) (ContentsStand (ids_of c.intern_all.new.interned) (g.C.ContentSource.contents c.args.contents)) c.make_object.new.owner.seen c.fill.new.owner.seen n (new g err).blank (new g err).shape (new g err).count) (holder_is g (holder_at g c)) (filled g c);
       limits = p.1.1.limits;
     }
 
@@ -374,7 +374,7 @@ later g c = store_view c.self.inside.id c.self.inside.config (tables_of c.intern
 
 -- what an object that was made and has its values leaves
 placed : (g : given.Over) (c : After-fill g) (t : Table g.row.D.Denot) (a : Account) (o : Object g.row.D.Denot) → HoldsAccount g.H.GcHeap.KIND (view g (first_of g (err_at g (holder_at g c)))) t a
-    → IsObjectOf (store_now g (err_at g (holder_at g c))) t c.args.request c.args.contents o
+    → IsObjectOf (store_now g (err_at g (holder_at g c))) t c.args.request (g.C.ContentSource.contents c.args.contents) o
     → (handle : GcRootIndex) → handle ≡ record { store_id = c.self.inside.id; generation = c.fill.new.owner.seen.roots.generation; slot = slot.Scoped c.in-Ok.index }
     → PlacesObject g.H.GcHeap.KIND (option_map non_zero_u32_get c.self.inside.config.alloc_counter) o (policy_state t a (g.L.ResourceLimiter.limits c.args.limiter.now)) (g.L.ResourceLimiter.limits c.make_object.new.limiter) handle (later g c)
 placed g c t a o holds is_asked handle handle_is =
@@ -385,7 +385,7 @@ placed g c t a o holds is_asked handle handle_is =
     let asked = asked_of g err t is.holds.place is.holds.holds in
     subst (λ (n : ℕ). PlacesObject g.H.GcHeap.KIND (option_map non_zero_u32_get c.self.inside.config.alloc_counter) o (policy_state t a (g.L.ResourceLimiter.limits c.args.limiter.now)) (g.L.ResourceLimiter.limits c.make_object.new.limiter) handle (store_view c.self.inside.id c.self.inside.config (tables_of c.intern_all.new.interned c.self.inside.asked) c.fill.new.owner.seen n))
     (sym c.count_allocation-is_due.ensures.counted)
-    (placing_follows g.H.GcHeap.KIND (view g (first_of g err)) c.reserve.new.self.seen c.args.request c.args.contents (new g err) (g.L.ResourceLimiter.limits c.args.limiter.now) t a is asked
+    (placing_follows g.H.GcHeap.KIND (view g (first_of g err)) c.reserve.new.self.seen c.args.request (g.C.ContentSource.contents c.args.contents) (new g err) (g.L.ResourceLimiter.limits c.args.limiter.now) t a is asked
     (ids_of c.intern_all.new.interned) (interned g (holder_at g c)) o (asked.asks_for t is.holds.place o is.holds.holds is_asked) (side_values_now g err t is.holds.place o is.holds.holds is_asked) (told g err).1 (room g err) (has_ids_now g err t is.holds.place o is.holds.holds is_asked)
     c.count_allocation-is_due.result (due_is g at) p.0 (last_state g c) c.in-Ok.index p.1.0 (created g c) handle handle_is)
 
@@ -428,14 +428,14 @@ failed_of g c = (goal.at.In-Err g c).After-make_object
 
 -- what an object that was not made leaves
 refused : (g : given.Over) (c : In-Err g) (t : Table g.row.D.Denot) (a : Account) (o : Object g.row.D.Denot) → HoldsAccount g.H.GcHeap.KIND (view g (first_of g (err_of g (failed_of g c)))) t a
-    → IsObjectOf (store_now g (err_of g (failed_of g c))) t c.args.request c.args.contents o
+    → IsObjectOf (store_now g (err_of g (failed_of g c))) t c.args.request (g.C.ContentSource.contents c.args.contents) o
     → FollowsFault g.H.GcHeap.KIND (view g (first_of g (err_of g (failed_of g c)))) o (policy_state t a (g.L.ResourceLimiter.limits c.args.limiter.now)) (made_state g (failed_of g c)) c.in-Err.fault
 refused g c t a o holds is_asked =
     let at = failed_of g c in
     let err = err_of g at in
     let is = reserved g err t a holds in
     let asked = asked_of g err t is.holds.place is.holds.holds in
-    fault_follows g.H.GcHeap.KIND (view g (first_of g err)) c.reserve.new.self.seen c.args.request c.args.contents (new g err) (g.L.ResourceLimiter.limits c.args.limiter.now) t a is asked
+    fault_follows g.H.GcHeap.KIND (view g (first_of g err)) c.reserve.new.self.seen c.args.request (g.C.ContentSource.contents c.args.contents) (new g err) (g.L.ResourceLimiter.limits c.args.limiter.now) t a is asked
     o (asked.asks_for t is.holds.place o is.holds.holds is_asked) (told g err).1 (room g err) (has_ids_now g err t is.holds.place o is.holds.holds is_asked)
     c.count_allocation-is_due.result (due_is g at) (made_state g at) c.in-Err.fault (made g at (Err c.in-Err.fault) c.in-Err.is)
 
@@ -466,9 +466,9 @@ invariant_of-self-in-Err g c =
           (subst (λ (n : ℕ). HoldsAccount g.H.GcHeap.KIND (store_view c.self.inside.id c.self.inside.config (tables_of c.self.inside.interned c.self.inside.asked) c.make_object.new.owner.seen n) after.table after.account) (sym c.count_allocation-is_due.ensures.counted) after.holds);
     }
 
-pub returns-in-Err-clause-places : goal.returns-in-Err-clause-places
-returns-in-Err-clause-places g c t a o holds is_asked =
-    let fault = (goal.at.returns-in-Err-clause-places g c).In-Err in
+pub returns-clause-places : goal.returns-clause-places
+returns-clause-places g c t a o holds is_asked =
+    let fault = (goal.at.returns-clause-places g c).In-Err in
     let err = err_of g (failed_of g fault) in
     let first = first_of g err in
     subst (λ (n : _). Places g.H.GcHeap.KIND n o (policy_state t a (g.L.ResourceLimiter.limits c.args.limiter.now)) (g.L.ResourceLimiter.limits c.make_object.new.limiter) (Err c.in-Err.fault) (left g fault)) (ap (λ (s : StoreView g.row.D.Denot). s.alloc_counter) c.self.view_is)
@@ -488,9 +488,9 @@ returns-in-Ok-clause-spare g c =
     let was = ap (λ (s : StoreView g.row.D.Denot). scoped_places s) c.self.view_is in
     omega (arith, more, less, same, count, was)
 
-pub returns-in-Err-clause-spare : goal.returns-in-Err-clause-spare
-returns-in-Err-clause-spare g c =
-    let fault = (goal.at.returns-in-Err-clause-spare g c).In-Err in
+pub returns-clause-spare : goal.returns-clause-spare
+returns-clause-spare g c =
+    let fault = (goal.at.returns-clause-spare g c).In-Err in
     let more = reserves_more c.roots_wanted-more.result c.self.inside.owner.seen.roots.spare c.reserve.new.self.seen.roots.spare c.reserve.result c.reserve.ensures.spare in
     let less = (rest_kept g fault).spare in
     let count = ap (λ (v : OwnerView g.row.D.Denot). length v.roots.scoped) c.reserve.ensures.rest in
