@@ -16,6 +16,15 @@ use gc_values::interned::InternedValues;
 use gc_values::slot::Slot;
 use gc_values::stored::write_value;
 
+/// Null, as a reference under `any`.
+const ANY_NULL: RawValue = RawValue::Ref(GcClass::Any, None);
+
+/// Null, as a reference under `extern`.
+const EXTERN_NULL: RawValue = RawValue::Ref(GcClass::Extern, None);
+
+/// Null, as a reference under `exn`.
+const EXN_NULL: RawValue = RawValue::Ref(GcClass::Exn, None);
+
 /// Operands as the values that they give, null for a register that is unset. None is a function or a continuation.
 #[derive(Drop)]
 pub(crate) struct PlainOperands<'a> {
@@ -40,53 +49,17 @@ fn write_operand<H: GcHeap, D: Drop>(
     ensures { WritesKept H.KIND (ids_of interned.now) owner.old.seen owner.new.seen gc_ref.now (storage_slot slot.now) (set_operand registers.now operand.now) }
 {
     match *operand {
-        Operand::I32(number) => {
-            write_value(owner, interned, gc_ref, slot, &RawValue::I32(number));
-        }
-        Operand::I64(number) => {
-            write_value(owner, interned, gc_ref, slot, &RawValue::I64(number));
-        }
+        Operand::I32(value) => write_value(owner, interned, gc_ref, slot, &RawValue::I32(value)),
+        Operand::I64(value) => write_value(owner, interned, gc_ref, slot, &RawValue::I64(value)),
         Operand::F32(bits) => write_value(owner, interned, gc_ref, slot, &RawValue::F32(bits)),
         Operand::F64(bits) => write_value(owner, interned, gc_ref, slot, &RawValue::F64(bits)),
         Operand::V128(bits) => write_value(owner, interned, gc_ref, slot, &RawValue::V128(bits)),
-        Operand::AnyNull => {
-            write_value(
-                owner,
-                interned,
-                gc_ref,
-                slot,
-                &RawValue::Ref(GcClass::Any, None),
-            );
-        }
-        Operand::ExternNull => {
-            write_value(
-                owner,
-                interned,
-                gc_ref,
-                slot,
-                &RawValue::Ref(GcClass::Extern, None),
-            );
-        }
-        Operand::ExnNull => {
-            write_value(
-                owner,
-                interned,
-                gc_ref,
-                slot,
-                &RawValue::Ref(GcClass::Exn, None),
-            );
-        }
+        Operand::AnyNull => write_value(owner, interned, gc_ref, slot, &ANY_NULL),
+        Operand::ExternNull => write_value(owner, interned, gc_ref, slot, &EXTERN_NULL),
+        Operand::ExnNull => write_value(owner, interned, gc_ref, slot, &EXN_NULL),
         Operand::Register(register) => match registers.held(register) {
             Some(value) => write_value(owner, interned, gc_ref, slot, value),
-            None => {
-                write_value(
-                    owner,
-                    interned,
-                    gc_ref,
-                    slot,
-                    &RawValue::Ref(GcClass::Any, None),
-                );
-            }
+            None => write_value(owner, interned, gc_ref, slot, &ANY_NULL),
         },
     }
 }
