@@ -83,6 +83,10 @@ declaration_elem (Some d) = shape_elem d.shape
 abbrev pub elem_at : List Declaration → ℕ → Option FieldType
 elem_at types ty = declaration_elem (slice_get types ty)
 
+-- what the type with that index lists
+abbrev pub shape_at : List Declaration → ℕ → Option Shape
+shape_at types ty = option_map (λ (d : Declaration). d.shape) (slice_get types ty)
+
 -- the kind of the type with that index
 abbrev pub kind_at : List Declaration → ℕ → Option TypeKind
 kind_at types ty = option_map (λ (d : Declaration). shape_kind d.shape) (slice_get types ty)

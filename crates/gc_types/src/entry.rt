@@ -14,6 +14,7 @@ use crate::placement::{ArrayLayouts, ObjectLayout, ObjectLayouts};
 use crate::value::{FieldType, Mutability, StorageType, ValType};
 use std::alloc::{AllocError, Global};
 use std::marker::Model;
+use std::rc::Rc;
 
 /// A struct's fields, with where they lie in each heap.
 #[derive(Drop)]
@@ -223,10 +224,133 @@ pub(crate) enum Body {
     Func(Signature),
 }
 
-/// A declared type, with where the values of its objects lie in each heap.
+/// What a declared type lists, with where the values of its objects lie in each heap. The table shares it with whoever makes
+/// objects of the type, so that it is asked for once an object.
+#[derive(Drop)]
+pub struct TypeShape {
+    body: Body,
+}
+
+impl Model for TypeShape {
+    ghost use Rattle.gc_types.specs.Declarations.{Shape};
+    ghost use Rattle.gc_types.specs.Shapes.{shape_of};
+
+    ghost Value = { Shape };
+
+    ghost view = { λ s. shape_of s.body };
+}
+
+impl TypeShape {
+    /// What is listed.
+    pub(crate) fn body(&self) -> &Body
+        ensures { shape_of result.now ≡ self.now }
+    {
+        &self.body
+    }
+
+    /// What sort of type it is.
+    #[inline(always)]
+    pub fn kind(&self) -> TypeKind
+        ensures { result ≡ shape_kind self.now }
+    {
+        match &self.body {
+            Body::Struct(_) => TypeKind::Struct,
+            Body::Array(_) => TypeKind::Array,
+            Body::Exn(_) => TypeKind::Exn,
+            Body::Func(_) => TypeKind::Func,
+        }
+    }
+
+    /// The fields of a struct or an exception.
+    #[inline(always)]
+    pub fn fields(&self) -> Option<&[FieldType]>
+        ensures { option_copied result ≡ shape_fields self.now }
+    {
+        match &self.body {
+            Body::Struct(fields) => Some(fields.as_slice()),
+            Body::Exn(params) => Some(params.fields()),
+            Body::Array(_) | Body::Func(_) => None,
+        }
+    }
+
+    /// How many fields a struct has.
+    #[inline(always)]
+    pub(crate) fn struct_len(&self) -> Option<usize>
+        ensures { result ≡ option_map length (shape_struct_fields self.now) }
+    {
+        match &self.body {
+            Body::Struct(fields) => Some(fields.as_slice().len()),
+            Body::Array(_) | Body::Exn(_) | Body::Func(_) => None,
+        }
+    }
+
+    /// That field of a struct or an exception.
+    // An arm for each: of one field nothing but what is asked of it is read then.
+    #[inline(always)]
+    pub fn field(&self, index: usize) -> Option<FieldType>
+        ensures { result ≡ option_and_then (λ fields. slice_get fields index) (shape_fields self.now) }
+    {
+        match &self.body {
+            Body::Struct(fields) => fields.as_slice().get(index).copied(),
+            Body::Exn(params) => {
+                let ty = params.as_slice().get(index)?;
+                Some(FieldType::constant(*ty))
+            }
+            Body::Array(_) | Body::Func(_) => None,
+        }
+    }
+
+    /// An array's element, lent.
+    #[inline(always)]
+    pub fn elem_type(&self) -> Option<&FieldType>
+        ensures { option_copied result ≡ shape_elem self.now }
+    {
+        match &self.body {
+            Body::Array(array) => Some(array.elem()),
+            Body::Struct(_) | Body::Exn(_) | Body::Func(_) => None,
+        }
+    }
+
+    /// The layout of a struct or an exception.
+    #[inline(always)]
+    pub fn struct_layout(&self, heap: Layouts) -> Option<&GcStructLayout>
+        ensures { option_copied result ≡ shape_layout heap self.now }
+    {
+        match &self.body {
+            Body::Struct(fields) => Some(&fields.in_heap(heap).layout),
+            Body::Exn(params) => Some(&params.in_heap(heap).layout),
+            Body::Array(_) | Body::Func(_) => None,
+        }
+    }
+
+    /// The layout of an array.
+    #[inline(always)]
+    pub fn array_layout(&self, heap: Layouts) -> Option<&GcArrayLayout>
+        ensures { option_copied result ≡ option_map (array_layout heap) (shape_elem self.now) }
+    {
+        match &self.body {
+            Body::Array(array) => Some(array.layout(heap)),
+            Body::Struct(_) | Body::Exn(_) | Body::Func(_) => None,
+        }
+    }
+
+    /// Where the references of an object lie.
+    pub(crate) fn trace_info(&self, heap: Layouts) -> Option<&TraceInfo>
+        ensures { option_copied result ≡ shape_trace heap self.now }
+    {
+        match &self.body {
+            Body::Struct(fields) => Some(&fields.in_heap(heap).trace),
+            Body::Array(array) => Some(array.trace()),
+            Body::Exn(params) => Some(&params.in_heap(heap).trace),
+            Body::Func(_) => None,
+        }
+    }
+}
+
+/// A declared type.
 #[derive(Drop)]
 pub(crate) struct Declared {
-    body: Body,
+    shape: Rc<TypeShape>,
     supertype: Option<VMSharedTypeIndex>,
     is_final: bool,
 }
@@ -236,26 +360,43 @@ impl Model for Declared {
 
     ghost Value = { Declaration };
 
-    ghost use Rattle.gc_types.specs.Shapes.{shape_of};
-
-    ghost view = { λ d. record { shape = shape_of d.body; supertype = d.supertype; is_final = d.is_final } };
+    ghost view = { λ d. record { shape = d.shape.value; supertype = d.supertype; is_final = d.is_final } };
 }
 
 impl Declared {
-    pub(crate) fn new(body: Body, supertype: Option<VMSharedTypeIndex>, is_final: bool) -> Declared
-        ensures { result ≡ record { shape = shape_of body; supertype = supertype; is_final = is_final } }
+    pub(crate) fn new(
+        alloc: Global,
+        body: Body,
+        supertype: Option<VMSharedTypeIndex>,
+        is_final: bool,
+    ) -> Result<Declared, AllocError>
+        ensures { IfOk result (λ d. d ≡ record { shape = shape_of body; supertype = supertype; is_final = is_final }) }
     {
-        Declared {
-            body,
+        let shape = Rc::new(alloc, TypeShape { body })?;
+        Ok(Declared {
+            shape,
             supertype,
             is_final,
-        }
+        })
+    }
+
+    #[inline(always)]
+    pub(crate) fn shape(&self) -> &Rc<TypeShape>
+        ensures { result.now.value ≡ self.now.shape }
+    {
+        &self.shape
     }
 
     pub(crate) fn body(&self) -> &Body
         ensures { shape_of result.now ≡ self.now.shape }
     {
-        &self.body
+        self.shape.body()
+    }
+
+    pub(crate) fn kind(&self) -> TypeKind
+        ensures { result ≡ shape_kind self.now.shape }
+    {
+        self.shape.kind()
     }
 
     pub(crate) fn supertype(&self) -> Option<VMSharedTypeIndex>
@@ -268,113 +409,5 @@ impl Declared {
         ensures { result ≡ self.now.is_final }
     {
         self.is_final
-    }
-
-    #[inline(always)]
-    pub(crate) fn kind(&self) -> TypeKind
-        ensures { result ≡ shape_kind self.now.shape }
-    {
-        match &self.body {
-            Body::Struct(_) => TypeKind::Struct,
-            Body::Array(_) => TypeKind::Array,
-            Body::Exn(_) => TypeKind::Exn,
-            Body::Func(_) => TypeKind::Func,
-        }
-    }
-
-    /// The fields of a struct or an exception.
-    #[inline(always)]
-    pub(crate) fn fields(&self) -> Option<&[FieldType]>
-        ensures { option_copied result ≡ shape_fields self.now.shape }
-    {
-        match &self.body {
-            Body::Struct(fields) => Some(fields.as_slice()),
-            Body::Exn(params) => Some(params.fields()),
-            Body::Array(_) | Body::Func(_) => None,
-        }
-    }
-
-    /// How many fields a struct has.
-    #[inline(always)]
-    pub(crate) fn struct_len(&self) -> Option<usize>
-        ensures { result ≡ option_map length (shape_struct_fields self.now.shape) }
-    {
-        match &self.body {
-            Body::Struct(fields) => Some(fields.as_slice().len()),
-            Body::Array(_) | Body::Exn(_) | Body::Func(_) => None,
-        }
-    }
-
-    /// That field of a struct or an exception.
-    // An arm for each: of one field nothing but what is asked of it is read then.
-    #[inline(always)]
-    pub(crate) fn field(&self, index: usize) -> Option<FieldType>
-        ensures { result ≡ option_and_then (λ fields. slice_get fields index) (shape_fields self.now.shape) }
-    {
-        match &self.body {
-            Body::Struct(fields) => fields.as_slice().get(index).copied(),
-            Body::Exn(params) => {
-                let ty = params.as_slice().get(index)?;
-                Some(FieldType::constant(*ty))
-            }
-            Body::Array(_) | Body::Func(_) => None,
-        }
-    }
-
-    /// An array's element.
-    #[inline(always)]
-    pub(crate) fn array_elem(&self) -> Option<FieldType>
-        ensures { result ≡ shape_elem self.now.shape }
-    {
-        match &self.body {
-            Body::Array(array) => Some(*array.elem()),
-            Body::Struct(_) | Body::Exn(_) | Body::Func(_) => None,
-        }
-    }
-
-    /// An array's element, lent.
-    #[inline(always)]
-    pub(crate) fn elem_type(&self) -> Option<&FieldType>
-        ensures { option_copied result ≡ shape_elem self.now.shape }
-    {
-        match &self.body {
-            Body::Array(array) => Some(array.elem()),
-            Body::Struct(_) | Body::Exn(_) | Body::Func(_) => None,
-        }
-    }
-
-    /// The layout of a struct or an exception.
-    #[inline(always)]
-    pub(crate) fn struct_layout(&self, heap: Layouts) -> Option<&GcStructLayout>
-        ensures { option_copied result ≡ shape_layout heap self.now.shape }
-    {
-        match &self.body {
-            Body::Struct(fields) => Some(&fields.in_heap(heap).layout),
-            Body::Exn(params) => Some(&params.in_heap(heap).layout),
-            Body::Array(_) | Body::Func(_) => None,
-        }
-    }
-
-    /// The layout of an array.
-    #[inline(always)]
-    pub(crate) fn array_layout(&self, heap: Layouts) -> Option<&GcArrayLayout>
-        ensures { option_copied result ≡ option_map (array_layout heap) (shape_elem self.now.shape) }
-    {
-        match &self.body {
-            Body::Array(array) => Some(array.layout(heap)),
-            Body::Struct(_) | Body::Exn(_) | Body::Func(_) => None,
-        }
-    }
-
-    /// Where the references of an object lie.
-    pub(crate) fn trace_info(&self, heap: Layouts) -> Option<&TraceInfo>
-        ensures { option_copied result ≡ shape_trace heap self.now.shape }
-    {
-        match &self.body {
-            Body::Struct(fields) => Some(&fields.in_heap(heap).trace),
-            Body::Array(array) => Some(array.trace()),
-            Body::Exn(params) => Some(&params.in_heap(heap).trace),
-            Body::Func(_) => None,
-        }
     }
 }

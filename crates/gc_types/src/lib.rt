@@ -22,6 +22,7 @@ mod type_names;
 pub mod types;
 pub mod value;
 
+pub use entry::TypeShape;
 pub use index::VMSharedTypeIndex;
 pub use kind::{Layouts, TypeKind, VMGcKind};
 pub use layout::{FieldLayout, FieldLayouts, GcArrayLayout, GcStructLayout, Offsets, TraceInfo};

@@ -2,14 +2,14 @@
 
 ghost use Rattle.std.specs.Prelude.{[], ◌↔◌, IsTrue, ◌≡◌, length, IfOk, OnOk, OnErr, option_copied, option_map, slice_get, IsErrOf, IfSome, IsSome, Some};
 ghost use Rattle.std.specs.Option.{option_and_then};
-ghost use Rattle.gc_types.specs.Declarations.{with_declaration, struct_type, array_type, exn_type, func_type, fields_at, struct_fields_at, elem_at, kind_at, supertype_at, is_final_at};
+ghost use Rattle.gc_types.specs.Declarations.{with_declaration, struct_type, array_type, exn_type, func_type, fields_at, struct_fields_at, elem_at, kind_at, shape_at, supertype_at, is_final_at};
 ghost use Rattle.gc_types.specs.Declarable.{Declarable, AreDeclared, ExnIsFinal, HasFewFields};
 ghost use Rattle.gc_types.specs.Subtyping.{supertypes_of, Meets, MatchesRef, MatchesVal, MatchesField};
 ghost use Rattle.gc_types.specs.Layouts.{struct_layout, layout_at, array_layout_at, trace_at};
 
 use crate::ancestry::Ancestry;
 use crate::checks;
-use crate::entry::{ArrayElem, Body, Declared, ExnParams, Signature, StructFields};
+use crate::entry::{ArrayElem, Body, Declared, ExnParams, Signature, StructFields, TypeShape};
 use crate::index::VMSharedTypeIndex;
 use crate::kind::{Layouts, TypeKind};
 use crate::layout::{GcArrayLayout, GcStructLayout, TraceInfo};
@@ -17,6 +17,7 @@ use crate::type_names::{ArrayType, ExnType, FuncType, StructType};
 use crate::value::{FieldType, RefType, ValType};
 use std::alloc::{AllocError, Global};
 use std::marker::Model;
+use std::rc::Rc;
 use thiserror::Error;
 
 /// How many fields, parameters or results a type may have.
@@ -106,7 +107,7 @@ impl Types {
             return Err(TypeFault::BadType);
         }
         let body = Body::Struct(StructFields::new(self.alloc, fields)?);
-        let index = self.declare(Declared::new(body, supertype, is_final))?;
+        let index = self.declare(Declared::new(self.alloc, body, supertype, is_final)?)?;
         Ok(StructType::new(self.engine, self.number, index))
     }
 
@@ -125,7 +126,7 @@ impl Types {
         ensures err { OnErr result (self.new ≡ self.old) }
     {
         let body = Body::Array(ArrayElem::new(elem));
-        let index = self.declare(Declared::new(body, supertype, is_final))?;
+        let index = self.declare(Declared::new(self.alloc, body, supertype, is_final)?)?;
         Ok(ArrayType::new(self.engine, self.number, index))
     }
 
@@ -142,7 +143,7 @@ impl Types {
             return Err(TypeFault::BadType);
         }
         let body = Body::Exn(ExnParams::new(self.alloc, params)?);
-        let index = self.declare(Declared::new(body, None, true))?;
+        let index = self.declare(Declared::new(self.alloc, body, None, true)?)?;
         Ok(ExnType::new(self.engine, self.number, index))
     }
 
@@ -166,7 +167,7 @@ impl Types {
             return Err(TypeFault::BadType);
         }
         let body = Body::Func(Signature::new(self.alloc, params, results)?);
-        let index = self.declare(Declared::new(body, supertype, is_final))?;
+        let index = self.declare(Declared::new(self.alloc, body, supertype, is_final)?)?;
         Ok(FuncType::new(self.engine, self.number, index))
     }
 
@@ -245,7 +246,17 @@ impl Types {
         ensures { result ≡ kind_at self.now.declarations ty }
     {
         let declared = self.declared.get(ty.as_u32() as usize)?;
-        Some(declared.kind())
+        Some(declared.shape().kind())
+    }
+
+    /// What the type lists, with where the values of its objects lie: all that is asked of it to make one. None exactly where
+    /// it isn't declared.
+    #[inline(always)]
+    pub fn shape(&self, ty: VMSharedTypeIndex) -> Option<&Rc<TypeShape>>
+        ensures { option_map (λ shape. shape.value) (option_copied result) ≡ shape_at self.now.declarations ty }
+    {
+        let declared = self.declared.get(ty.as_u32() as usize)?;
+        Some(declared.shape())
     }
 
     /// The name of that struct type; None exactly where the index names none.
@@ -316,7 +327,7 @@ impl Types {
         ensures { option_copied result ≡ fields_at self.now.declarations ty }
     {
         let declared = self.declared.get(ty.as_u32() as usize)?;
-        declared.fields()
+        declared.shape().fields()
     }
 
     /// How many fields the struct or exception type has; None exactly where the index names none.
@@ -334,7 +345,7 @@ impl Types {
         ensures { result ≡ option_map length (struct_fields_at self.now.declarations ty) }
     {
         let declared = self.declared.get(ty.as_u32() as usize)?;
-        declared.struct_len()
+        declared.shape().struct_len()
     }
 
     /// The type of that field; None exactly where there is no such struct or exception type or field.
@@ -343,7 +354,7 @@ impl Types {
         ensures { result ≡ option_and_then (λ fields. slice_get fields index) (fields_at self.now.declarations ty) }
     {
         let declared = self.declared.get(ty.as_u32() as usize)?;
-        declared.field(index)
+        declared.shape().field(index)
     }
 
     /// The type of the elements; None exactly where the index names no array type.
@@ -351,8 +362,8 @@ impl Types {
     pub fn array_elem(&self, ty: VMSharedTypeIndex) -> Option<FieldType>
         ensures { result ≡ elem_at self.now.declarations ty }
     {
-        let declared = self.declared.get(ty.as_u32() as usize)?;
-        declared.array_elem()
+        let elem = self.elem_type(ty)?;
+        Some(*elem)
     }
 
     /// The type of the elements, lent; None exactly where the index names no array type.
@@ -361,7 +372,7 @@ impl Types {
         ensures { option_copied result ≡ elem_at self.now.declarations ty }
     {
         let declared = self.declared.get(ty.as_u32() as usize)?;
-        declared.elem_type()
+        declared.shape().elem_type()
     }
 
     /// Where the fields of the struct or exception type lie in that heap; None exactly where the
@@ -373,7 +384,7 @@ impl Types {
             → option_copied result ≡ option_map (struct_layout heap) (struct_fields_at self.now.declarations ty) }
     {
         let declared = self.declared.get(ty.as_u32() as usize)?;
-        declared.struct_layout(heap)
+        declared.shape().struct_layout(heap)
     }
 
     /// Where the elements of the array type lie in that heap; None exactly where the index names none.
@@ -382,7 +393,7 @@ impl Types {
         ensures { option_copied result ≡ array_layout_at heap self.now.declarations ty }
     {
         let declared = self.declared.get(ty.as_u32() as usize)?;
-        declared.array_layout(heap)
+        declared.shape().array_layout(heap)
     }
 
     /// Where the references of the type's objects lie in that heap; None exactly where the index
@@ -391,6 +402,6 @@ impl Types {
         ensures { option_copied result ≡ trace_at heap self.now.declarations ty }
     {
         let declared = self.declared.get(ty.as_u32() as usize)?;
-        declared.trace_info(heap)
+        declared.shape().trace_info(heap)
     }
 }
