@@ -244,13 +244,13 @@ impl BatchedFreeList {
     pub fn alloc_fast(&mut self, alloc_size: u32) -> Result<Option<NonZeroU32>, AllocError>
         requires whole { alloc_size % ALIGN ≡ 0 }
         requires some { 0 < alloc_size }
+        ensures sound { IsSound self.new.space }
+        ensures err { OnErr result (self.new.space ≡ self.old.space) }
         ensures place { IfOk result (λ place.
             option_map (λ p. non_zero_u32_get p) place ≡ (take alloc_size self.old.space).place) }
         ensures after { OnOk result (self.new.space ≡ (take alloc_size self.old.space).space) }
         ensures none { IfOk result (λ place. IsNone place ↔ All (λ r. r.length < alloc_size) (free_runs self.old.space)) }
         ensures aligned { IfOk result (λ place. IfSome place (λ p. non_zero_u32_get p % ALIGN ≡ 0)) }
-        ensures err { OnErr result (self.new.space ≡ self.old.space) }
-        ensures sound { IsSound self.new.space }
     {
         settle(&mut self.list, &mut self.waiting, &mut self.highest);
         self.list.alloc_fast(alloc_size)
@@ -261,9 +261,9 @@ impl BatchedFreeList {
     /// waits, or where fewer than the most wait (not proved).
     pub fn dealloc_fast(&mut self, index: NonZeroU32, alloc_size: u32)
         requires { Contains self.old.space.held (run (non_zero_u32_get index) alloc_size) }
+        ensures sound { IsSound self.new.space }
         ensures given { self.new.space ≡ give (run (non_zero_u32_get index) alloc_size) self.old.space }
         ensures memory { self.new.memory ≡ self.old.memory }
-        ensures sound { IsSound self.new.space }
     {
         let block = Run {
             place: index.get(),
