@@ -5,7 +5,7 @@ use Rattle.gc_types.specs.declared.value.Tag.{Tag}
 use Rattle.gc_types.specs.declared.value.ValType.{ValType}
 use Rattle.gc_types.specs.declared.kind.Layouts.{Layouts}
 use Rattle.gc_types.specs.declared.kind.VMGcKind.TheVariants.{StructRef, ArrayRef, ExnRef}
-use Rattle.gc_types.specs.Declarations.{Declaration, struct_of, array_of, exn_of, constant_field, struct_fields_at, elem_at}
+use Rattle.gc_types.specs.Declarations.{Declaration, struct_of, array_of, exn_of, constant_field, struct_fields_at, elem_at, shape_at}
 use Rattle.gc_types.specs.Layouts.{struct_base, exception_base, fields_end, storage_width}
 use Rattle.gc_view.specs.Bytes.{u32_at}
 use Rattle.gc_view.specs.Heaps.{HeapObject}
@@ -14,7 +14,7 @@ use Rattle.gc_view.specs.Slots.{field_slots, element_slots, elements_from}
 use Rattle.gc_model.specs.Values.{Value}
 use Rattle.gc_model.specs.Forms.{Names}
 use Rattle.gc_model.specs.Standing.{ValuesLie, StructStands, ArrayStands, ExceptionStands}
-use Rattle.gc_model.proofs.ObjectShapes.{shape_at, struct_shape, array_shape}
+use Rattle.gc_model.proofs.ObjectShapes.{struct_shape, array_shape}
 
 module _ (layouts : Layouts) (types : List Declaration) (names : Names) (ty : ℕ) (values : List Value) (h : HeapObject) (same_type : h.ty ≡ ty) where
   -- a struct

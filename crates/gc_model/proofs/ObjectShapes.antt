@@ -10,17 +10,13 @@ use Rattle.gc_types.specs.declared.value.Tag.{Tag}
 use Rattle.gc_types.specs.declared.kind.Layouts.{Layouts}
 use Rattle.gc_types.specs.declared.kind.TypeKind.TheVariants as kinds
 use Rattle.gc_types.specs.declared.layout.FieldLayout.{FieldLayout}
-use Rattle.gc_types.specs.Declarations.{Declaration, Shape, struct_of, array_of, exn_of, func_of, shape_kind, constant_field, shape_struct_fields, declaration_struct_fields, shape_elem, declaration_elem, struct_fields_at, elem_at}
+use Rattle.gc_types.specs.Declarations.{Declaration, Shape, struct_of, array_of, exn_of, func_of, shape_kind, constant_field, shape_struct_fields, declaration_struct_fields, shape_elem, declaration_elem, struct_fields_at, elem_at, shape_at}
 use Rattle.gc_types.specs.Layouts.{struct_base, exception_base, field_layouts, field_offset, storage_width}
 use Rattle.gc_view.specs.Slots.{StorageSlot, field_slots, element_slots, elements_from, shape_slots, shape_size}
 use Rattle.gc_model.specs.Values.{Value, Object, struct, array, host, exception}
 use Rattle.gc_model.specs.Reach.{object_values}
 use Rattle.gc_model.specs.Sizes.{shape_exn_fields, exn_fields_at, object_size, fields_size, elements_size, exception_size}
 use Rattle.gc_model.specs.Stored.{listed_type, value_type}
-
--- the shape of the declared type with that index
-abbrev pub shape_at : List Declaration → ℕ → Option Shape
-shape_at types ty = option_map (λ (d : Declaration). d.shape) (slice_get types ty)
 
 -- the shape of an object's type; a host object has none
 abbrev pub object_shape : {D : Type 0} → List Declaration → Object D → Option Shape

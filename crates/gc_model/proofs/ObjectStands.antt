@@ -10,7 +10,7 @@ use Rattle.gc_types.specs.declared.kind.TypeKind.{TypeKind}
 use Rattle.gc_types.specs.declared.kind.VMGcKind.{VMGcKind}
 use Rattle.gc_types.specs.declared.kind.VMGcKind.TheVariants.{StructRef, ArrayRef, ExnRef, ExternRef}
 use Rattle.gc_types.specs.declared.kind.TypeKind.TheVariants as kinds
-use Rattle.gc_types.specs.Declarations.{Declaration, Shape, struct_of, array_of, exn_of, func_of, shape_kind}
+use Rattle.gc_types.specs.Declarations.{Declaration, Shape, struct_of, array_of, exn_of, func_of, shape_kind, shape_at}
 use Rattle.gc_types.specs.Layouts.{struct_base, exception_base, array_base, storage_width}
 use Rattle.gc_view.specs.Bytes.{u32_at}
 use Rattle.gc_view.specs.Heaps.{HeapObject}
@@ -25,7 +25,7 @@ use Rattle.gc_model.specs.Table.{with_value}
 use Rattle.gc_model.specs.Forms.{Names, LiesAs}
 use Rattle.gc_model.specs.Standing.{Stands, ShapeStands, ValuesLie}
 use Rattle.gc_model.proofs.Lists.{slice_get-same_length}
-use Rattle.gc_model.proofs.ObjectShapes.{shape_at, IsOfShape, IsSlotOf, shape_declared, type_of_slot, value_type_is, slot_alone}
+use Rattle.gc_model.proofs.ObjectShapes.{IsOfShape, IsSlotOf, shape_declared, type_of_slot, value_type_is, slot_alone}
 
 -- the kind that an object has in a heap
 abbrev pub object_kind : {D : Type 0} → Object D → VMGcKind

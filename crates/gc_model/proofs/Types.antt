@@ -4,13 +4,12 @@ use Rattle.std.specs.List.{slice_get}
 use Rattle.std.specs.Prelude.{option_and_then}
 use Rattle.std.proofs.lemmas.Option.{none-some}
 use Rattle.gc_types.specs.declared.kind.Layouts.TheVariants.{Null}
-use Rattle.gc_types.specs.Declarations.{Declaration, Shape, declaration_struct_fields, declaration_elem}
+use Rattle.gc_types.specs.Declarations.{Declaration, Shape, declaration_struct_fields, declaration_elem, shape_at}
 use Rattle.gc_types.specs.Layouts.{round_up}
 use Rattle.gc_model.specs.Values.{Object, struct, array, host, exception}
 use Rattle.gc_view.specs.Sizes.{alignment}
 use Rattle.gc_model.specs.Sizes.{object_size, next_after, fields_size, elements_size, exception_size, shape_exn_fields}
 use Rattle.gc_model.proofs.Lists.{slice_get-push_old}
-use Rattle.gc_model.proofs.ObjectShapes.{shape_at}
 
 -- a type of the table is one of the longer table
 pub slice_get-declared : (types : List Declaration) (d : Declaration) (ty : ℕ) (declared : Declaration) → slice_get types ty ≡ Some declared → slice_get (types ++ d ∷ []) ty ≡ slice_get types ty

@@ -1,38 +1,32 @@
 -- Making objects: their layouts are such as heaps take, and with its root each leaves a heap in which a
 -- collection may begin.
-use Rattle.std.proofs.Common.{◌≡◌, ℕ, ◌+◌, ◌-◌, ◌<◌, ◌^◌, ◌≤◌, inl, inr, Bool, true, false, List, [], ◌∷◌, ◌++◌, length, map, replicate, get_or, Option, Some, None, Contains, refl, sym, ap, ◌∙◌, subst, arith}
-use Rattle.std.specs.Prelude.{All, slice_get, option_map}
+use Rattle.std.proofs.Common.{◌≡◌, ℕ, ◌+◌, ◌-◌, ◌<◌, ◌^◌, ◌≤◌, inl, inr, Bool, true, false, List, [], ◌∷◌, ◌++◌, length, replicate, Some, Contains, refl, sym, ap, ◌∙◌, subst, arith}
 use Rattle.std.specs.Int.{w32, to_le_bytes}
 use Rattle.std.specs.FinMap.{get, insert}
 use Rattle.std.proofs.lemmas.Nat.{from_le_bytes-to_le_bytes_4}
 use Rattle.std.proofs.lemmas.Bool.{cases_eq}
-use Rattle.std.proofs.lemmas.Option.{none-some, same_Some}
+use Rattle.std.proofs.lemmas.Option.{same_Some}
 use Rattle.std.proofs.lemmas.List.{length-replicate, length-append, append_assoc}
-use Rattle.std.proofs.lemmas.List.Elements.{Contains-get_or, Contains-append_cases, Contains-append_left, Contains-append_right}
+use Rattle.std.proofs.lemmas.List.Elements.{Contains-append_cases, Contains-append_left, Contains-append_right}
 use Rattle.gc_types.specs.declared.kind.Layouts.{Layouts}
 use Rattle.gc_types.specs.declared.kind.Layouts.TheVariants.{Null, Counting, Copying}
 use Rattle.gc_types.specs.declared.kind.VMGcKind.TheVariants.{ArrayRef, ExternRef}
-use Rattle.gc_types.specs.declared.value.FieldType.{FieldType}
 use Rattle.gc_types.specs.declared.layout.GcStructLayout.{GcStructLayout}
 use Rattle.gc_types.specs.declared.layout.GcArrayLayout.{GcArrayLayout}
-use Rattle.gc_types.specs.Declarations.{Declaration, Shape, struct_of, array_of, exn_of, func_of, constant_field, elem_at}
-use Rattle.gc_types.specs.Layouts.{struct_base, exception_base, array_base, round_up, ref_offsets, field_layouts, fields_end, struct_layout, exn_layout, array_layout, shape_layout, declaration_layout, layout_at, array_layout_at}
+use Rattle.gc_types.specs.Declarations.{Declaration}
+use Rattle.gc_types.specs.Layouts.{struct_base, array_base, layout_at, array_layout_at}
 use Rattle.gc_roots.specs.Roots.{Root, root}
 use Rattle.gc_view.specs.Sizes.{stored_size}
 use Rattle.gc_view.specs.Heaps.{HeapObject, HeapView}
 use Rattle.gc_view.proofs.Content.{get-put_same, get-put_other}
-use Rattle.gc_view.proofs.Layouts.{layout_low, stored_size-le}
+use Rattle.gc_view.proofs.Layouts.{stored_size-le}
 use Rattle.gc_heap.specs.Objects.{first_offset, array_length}
-use Rattle.gc_heap.specs.References.{IsTraceable}
-use Rattle.gc_heap.specs.Rules.{LayoutTraces, ArrayTraces}
 use Rattle.gc_heap.specs.Content.{IsHeap}
-use Rattle.gc_heap.specs.Heap.{AddsObject, exn_or_struct, layout_kind, new_struct, new_array, array_size}
+use Rattle.gc_heap.specs.Heap.{AddsObject, exn_or_struct, new_struct, new_array, array_size}
 use Rattle.gc_heap.specs.Collection.{CanCollect, AreCounted, stack_words, has_host}
 use Rattle.gc_heap.proofs.AddedLemmas.{start, IsBlank, OwnsHost, array_bases, blank_struct, blank_array, blank_external, owns_none, external_id}
 use Rattle.gc_heap.proofs.MadeLemmas.{can_collect_made}
 use Rattle.gc_heap.proofs.TakenLayouts.{taken_layout, taken_array}
-use Rattle.gc_heap.proofs.SpacedLemmas.{Spaced-in, spaced_fields, fields_from, aligned_fields, ref_width}
-use Rattle.gc_memory.proofs.ListLemmas.{contains_in}
 use Rattle.gc_heap.proofs.CountLemmas.{held-append, words-append}
 use Rattle.gc_owner.specs.RootColumns.{RootsView, scoped_words, owned_words, frame_slot_words, global_words, listed_as, roots_of, with_scoped}
 use Rattle.gc_owner.specs.declared.allocate.Description.{Description}
@@ -175,10 +169,10 @@ module _ (layouts : Layouts) (types : List Declaration) (h : HeapView) (hosts : 
 
 -- what is described may be made
 pub makeable : {D : Type 0} (layouts : Layouts) (v : OwnerView D) (d : Description) (o : HeapObject) (size : ℕ) → Describes layouts v d o size → IsMakeable layouts v.types.declarations v.heap (has_host v.hosts) o
-makeable layouts v (of.Object ty) o size (layout, (declared, (is, sized))) =
-    subst (IsMakeable layouts v.types.declarations v.heap (has_host v.hosts)) (sym is) (struct_makeable layouts v.types.declarations v.heap (has_host v.hosts) ty layout declared)
-makeable layouts v (of.Array ty count) o size (layout, (declared, (small, (is, sized)))) =
-    subst (IsMakeable layouts v.types.declarations v.heap (has_host v.hosts)) (sym is) (array_makeable layouts v.types.declarations v.heap (has_host v.hosts) ty count layout small declared)
+makeable layouts v (of.Object ty layout) o size (declared, (is, sized)) =
+    subst (IsMakeable layouts v.types.declarations v.heap (has_host v.hosts)) (sym is) (struct_makeable layouts v.types.declarations v.heap (has_host v.hosts) ty layout.now declared)
+makeable layouts v (of.Array ty count layout) o size (declared, (small, (is, sized))) =
+    subst (IsMakeable layouts v.types.declarations v.heap (has_host v.hosts)) (sym is) (array_makeable layouts v.types.declarations v.heap (has_host v.hosts) ty count layout.now small declared)
 makeable layouts v (of.External id) o size (free, (is, sized)) =
     subst (IsMakeable layouts v.types.declarations v.heap (has_host v.hosts)) (sym is) (record {
       blank = blank_external layouts v.types.declarations id;
@@ -191,6 +185,6 @@ makeable layouts v (of.External id) o size (free, (is, sized)) =
 
 -- and the types tell it
 pub told : {D : Type 0} (layouts : Layouts) (v : OwnerView D) (d : Description) (o : HeapObject) (size : ℕ) → Describes layouts v d o size → DescribesDeclared layouts v.types.declarations d o size
-told layouts v (of.Object ty) o size (layout, (declared, (is, sized))) = (layout, (declared, (is, sized)))
-told layouts v (of.Array ty count) o size (layout, (declared, (small, (is, sized)))) = (layout, (declared, (is, sized)))
+told layouts v (of.Object ty layout) o size (declared, (is, sized)) = (declared, (is, sized))
+told layouts v (of.Array ty count layout) o size (declared, (small, (is, sized))) = (declared, (is, sized))
 told layouts v (of.External id) o size (free, (is, sized)) = (is, sized)

@@ -63,8 +63,8 @@ free_grown layouts id bytes v free = record {
 }
 
 described_later : {D : Type 0} (layouts : Layouts) (d : Description) (o : HeapObject) (size : ℕ) (old new : OwnerView D) → new.types ≡ old.types → ((id : ℕ) → IsFreeHost old id → IsFreeHost new id) → Describes layouts old d o size → Describes layouts new d o size
-described_later layouts (of.Object ty) o size old new types free (layout, (declared, rest)) = (layout, (ap (λ (t : TypeTable). layout_at layouts t.declarations ty) types ∙ declared, rest))
-described_later layouts (of.Array ty count) o size old new types free (layout, (declared, rest)) = (layout, (ap (λ (t : TypeTable). array_layout_at layouts t.declarations ty) types ∙ declared, rest))
+described_later layouts (of.Object ty layout) o size old new types free (declared, rest) = (ap (λ (t : TypeTable). layout_at layouts t.declarations ty) types ∙ declared, rest)
+described_later layouts (of.Array ty count layout) o size old new types free (declared, rest) = (ap (λ (t : TypeTable). array_layout_at layouts t.declarations ty) types ∙ declared, rest)
 described_later layouts (of.External id) o size old new types free (is, rest) = (free id is, rest)
 
 make_later : {D : Type 0} (layouts : Layouts) (d : Description) (o : HeapObject) (size : ℕ) (old new : OwnerView D) → new.idle ≡ true → new.heap.attached ≡ true → old.roots.spare ≤ new.roots.spare → length new.roots.scoped ≡ length old.roots.scoped

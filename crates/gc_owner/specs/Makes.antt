@@ -1,8 +1,6 @@
 -- What making an object answers and leaves.
 use Rattle.std.specs.Prelude.{◌≡◌, ℕ, ◌+◌, ◌^◌, ◌<◌, true, false, Some, Result, Ok, Err, length}
 use Rattle.gc_types.specs.declared.kind.Layouts.{Layouts}
-use Rattle.gc_types.specs.declared.layout.GcStructLayout.{GcStructLayout}
-use Rattle.gc_types.specs.declared.layout.GcArrayLayout.{GcArrayLayout}
 use Rattle.gc_types.specs.Layouts.{layout_at, array_layout_at}
 use Rattle.gc_view.specs.Sizes.{IsTooLarge, external_size, need_of}
 use Rattle.gc_view.specs.Heaps.{HeapObject}
@@ -27,11 +25,11 @@ pub record IsFreeHost {D : Type 0} (v : OwnerView D) (id : ℕ) : Type 0 where
 
 -- a description tells that object, of so many bytes
 abbrev pub Describes : {D : Type 0} → Layouts → OwnerView D → Description → HeapObject → ℕ → Type 0
-Describes layouts v (of.Object ty) o size =
-    (layout : GcStructLayout) × ((layout_at layouts v.types.declarations ty ≡ Some layout) × ((o ≡ new_struct layouts ty layout) × (size ≡ layout.size)))
-Describes layouts v (of.Array ty count) o size =
-    (layout : GcArrayLayout) × ((array_layout_at layouts v.types.declarations ty ≡ Some layout)
-    × ((count < 2 ^ 32) × ((o ≡ new_array layouts ty count layout) × (size ≡ array_size layout count))))
+Describes layouts v (of.Object ty layout) o size =
+    (layout_at layouts v.types.declarations ty ≡ Some layout.now) × ((o ≡ new_struct layouts ty layout.now) × (size ≡ layout.now.size))
+Describes layouts v (of.Array ty count layout) o size =
+    (array_layout_at layouts v.types.declarations ty ≡ Some layout.now)
+    × ((count < 2 ^ 32) × ((o ≡ new_array layouts ty count layout.now) × (size ≡ array_size layout.now count)))
 Describes layouts v (of.External id) o size = IsFreeHost v id × ((o ≡ external id) × (size ≡ external_size layouts))
 
 -- An object may be made by a description: the heap has its memory, no collection is under way, and there is room

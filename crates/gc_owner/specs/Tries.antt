@@ -1,8 +1,6 @@
 -- What one try of an allocation answers and leaves.
 use Rattle.std.specs.Prelude.{◌≡◌, ℕ, Bool, List, Some, Result, Ok, Err, length}
 use Rattle.gc_types.specs.declared.kind.Layouts.{Layouts}
-use Rattle.gc_types.specs.declared.layout.GcStructLayout.{GcStructLayout}
-use Rattle.gc_types.specs.declared.layout.GcArrayLayout.{GcArrayLayout}
 use Rattle.gc_types.specs.Declarations.{Declaration}
 use Rattle.gc_types.specs.Layouts.{layout_at, array_layout_at}
 use Rattle.gc_view.specs.Sizes.{IsTooLarge, external_size}
@@ -22,10 +20,10 @@ use Rattle.gc_owner.specs.Makes.{Describes, AddsScoped}
 
 -- a description tells that object, of so many bytes, where its type is declared
 abbrev pub DescribesDeclared : Layouts → List Declaration → Description → HeapObject → ℕ → Type 0
-DescribesDeclared layouts types (of.Object ty) o size =
-    (layout : GcStructLayout) × ((layout_at layouts types ty ≡ Some layout) × ((o ≡ new_struct layouts ty layout) × (size ≡ layout.size)))
-DescribesDeclared layouts types (of.Array ty count) o size =
-    (layout : GcArrayLayout) × ((array_layout_at layouts types ty ≡ Some layout) × ((o ≡ new_array layouts ty count layout) × (size ≡ array_size layout count)))
+DescribesDeclared layouts types (of.Object ty layout) o size =
+    (layout_at layouts types ty ≡ Some layout.now) × ((o ≡ new_struct layouts ty layout.now) × (size ≡ layout.now.size))
+DescribesDeclared layouts types (of.Array ty count layout) o size =
+    (array_layout_at layouts types ty ≡ Some layout.now) × ((o ≡ new_array layouts ty count layout.now) × (size ≡ array_size layout.now count))
 DescribesDeclared layouts types (of.External id) o size = (o ≡ external id) × (size ≡ external_size layouts)
 
 -- the answer of an allocation in the heap becomes that of the owner's: the object has a new scoped root, which

@@ -1,6 +1,7 @@
 //! New objects, by the rule of retry.
 
-ghost use Rattle.std.specs.Prelude.{◌≡◌, ◌<◌, ◌^◌, ℕ, true, false, length};
+ghost use Rattle.std.specs.Prelude.{◌≡◌, ◌<◌, ◌^◌, ℕ, List, true, false, length};
+ghost use Rattle.gc_types.specs.Declarations.{Declaration};
 ghost use Rattle.gc_view.specs.Heaps.{HeapObject};
 ghost use Rattle.gc_heap.specs.Heap.{Allocated};
 ghost use Rattle.gc_owner.specs.Growing.{state_of};
@@ -16,16 +17,16 @@ use gc_heap::words::{array_word, external_word};
 use gc_heap::{GcHeap, HeapFault};
 use gc_refs::VMGcRef;
 use gc_tables::ExternRefHostDataId;
-use gc_types::{Types, VMSharedTypeIndex};
+use gc_types::{GcArrayLayout, GcStructLayout, VMSharedTypeIndex};
 use thiserror::Error;
 
 /// What is to be made.
 #[derive(Clone, Copy, Debug)]
-pub enum Description {
-    /// A struct or an exception of a declared type, whose fields are 0.
-    Object(VMSharedTypeIndex),
-    /// An array of a declared type and of that length, whose elements are 0.
-    Array(VMSharedTypeIndex, u32),
+pub enum Description<'a> {
+    /// A struct or an exception of a declared type with that layout, whose fields are 0.
+    Object(VMSharedTypeIndex, &'a GcStructLayout),
+    /// An array of a declared type with that layout and of that length, whose elements are 0.
+    Array(VMSharedTypeIndex, u32, &'a GcArrayLayout),
     /// An external object for the host value under that id.
     External(ExternRefHostDataId),
 }
@@ -47,23 +48,18 @@ pub enum AllocateFault {
 #[inline(always)]
 fn new_object<H: GcHeap>(
     heap: &mut H,
-    types: &Types,
-    description: &Description,
+    description: &Description<'_>,
 ) -> Result<Result<VMGcRef, u64>, HeapFault>
     requires sound { H.sound heap.old }
     requires attached { (H.seen heap.old).attached ≡ true }
-    requires told { (o : HeapObject) × ((size : ℕ) × DescribesDeclared H.KIND types.now.declarations description.now o size) }
+    requires told { (types : List Declaration) × ((o : HeapObject) × ((size : ℕ) × DescribesDeclared H.KIND types description.now o size)) }
     ensures sound { H.sound heap.new }
-    ensures allocated { (o : HeapObject) (size : ℕ) → DescribesDeclared H.KIND types.now.declarations description.now o size
+    ensures allocated { (types : List Declaration) (o : HeapObject) (size : ℕ) → DescribesDeclared H.KIND types description.now o size
         → Allocated H.KIND (H.seen heap.old) (H.seen heap.new) o size result }
 {
     match *description {
-        Description::Object(ty) => {
-            let layout = types.struct_layout(H::KIND, ty).unwrap();
-            heap.alloc_uninit_struct_or_exn(ty, layout)
-        }
-        Description::Array(ty, length) => {
-            let layout = types.array_layout(H::KIND, ty).unwrap();
+        Description::Object(ty, layout) => heap.alloc_uninit_struct_or_exn(ty, layout),
+        Description::Array(ty, length, layout) => {
             array_word(heap.alloc_uninit_array(ty, length, layout))
         }
         Description::External(id) => external_word(heap.alloc_externref(id)),
@@ -92,12 +88,12 @@ fn root_new(
 impl<H: GcHeap, D: Drop> HeapOwner<H, D> {
     /// Tries once to make an object with its root. `HeapOutOfMemory` says what it takes.
     #[inline(always)]
-    fn try_once(&mut self, description: &Description) -> Result<u32, AllocateFault>
+    fn try_once(&mut self, description: &Description<'_>) -> Result<u32, AllocateFault>
         requires can { CanMakeDescribed H.KIND self.old.seen description.now }
         ensures tried { (o : HeapObject) (size : ℕ) → Describes H.KIND self.old.seen description.now o size
             → Tries H.KIND o size self.old.seen self.new.seen result }
     {
-        let made = new_object(&mut self.heap, &self.types, description);
+        let made = new_object(&mut self.heap, description);
         root_new(&mut self.roots, made)
     }
 
@@ -106,7 +102,7 @@ impl<H: GcHeap, D: Drop> HeapOwner<H, D> {
     fn collect_then_grow<L: ResourceLimiter>(
         &mut self,
         limiter: &mut L,
-        description: &Description,
+        description: &Description<'_>,
     ) -> Result<u32, AllocateFault>
         requires can { CanMakeDescribed H.KIND self.old.seen description.now }
         requires lacks { (need : ℕ) × Lacks H.KIND self.old.seen description.now need true }
@@ -132,7 +128,7 @@ impl<H: GcHeap, D: Drop> HeapOwner<H, D> {
     fn grow_or_collect<L: ResourceLimiter>(
         &mut self,
         limiter: &mut L,
-        description: &Description,
+        description: &Description<'_>,
         need: u64,
     ) -> Result<u32, AllocateFault>
         requires can { CanMakeDescribed H.KIND self.old.seen description.now }
@@ -160,19 +156,19 @@ impl<H: GcHeap, D: Drop> HeapOwner<H, D> {
     pub fn allocate<L: ResourceLimiter>(
         &mut self,
         limiter: &mut L,
-        description: Description,
+        description: &Description<'_>,
     ) -> Result<u32, AllocateFault>
-        requires can { CanMakeDescribed H.KIND self.old.seen description }
-        ensures allocated { (o : HeapObject) (size : ℕ) → Describes H.KIND self.old.seen description o size
+        requires can { CanMakeDescribed H.KIND self.old.seen description.now }
+        ensures allocated { (o : HeapObject) (size : ℕ) → Describes H.KIND self.old.seen description.now o size
             → AllocateAnswers H.KIND o size (state_of self.old.seen (L.limits limiter.old)) (state_of self.new.seen (L.limits limiter.new)) result }
     {
-        match self.try_once(&description) {
+        match self.try_once(description) {
             Ok(index) => Ok(index),
             Err(AllocateFault::HeapOutOfMemory(need)) => {
                 if should_collect_first(need, self.heap().heap_slice().len(), self.last()) {
-                    self.collect_then_grow(limiter, &description)
+                    self.collect_then_grow(limiter, description)
                 } else {
-                    self.grow_or_collect(limiter, &description, need)
+                    self.grow_or_collect(limiter, description, need)
                 }
             }
             Err(AllocateFault::TooLarge) => Err(AllocateFault::TooLarge),

@@ -105,7 +105,7 @@ impl<H: GcHeap, D: Drop> HeapOwner<H, D> {
             Err(SlabFault::Memory(back)) => return Err(HostFault::Memory(back)),
         };
         self.is_ready();
-        match self.allocate(limiter, Description::External(id)) {
+        match self.allocate(limiter, &Description::External(id)) {
             Ok(index) => Ok(index),
             Err(AllocateFault::HeapOutOfMemory(need)) => {
                 Err(HostFault::HeapOutOfMemory(self.take_value(id), need))

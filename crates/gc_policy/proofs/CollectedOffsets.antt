@@ -7,7 +7,7 @@ use Rattle.gc_types.specs.declared.kind.Layouts.{Layouts}
 use Rattle.gc_types.specs.declared.kind.Layouts.TheVariants.{Null, Counting, Copying}
 use Rattle.gc_types.specs.declared.kind.TypeKind.TheVariants as kinds
 use Rattle.gc_types.specs.declared.layout.TraceInfo.TheVariants as trace
-use Rattle.gc_types.specs.Declarations.{Shape, struct_of, array_of, exn_of, func_of, shape_kind, Declaration, constant_field}
+use Rattle.gc_types.specs.Declarations.{Shape, struct_of, array_of, exn_of, func_of, shape_kind, Declaration, constant_field, shape_at}
 use Rattle.gc_types.specs.Layouts.{struct_base, exception_base, array_base, round_up, storage_width, is_gc_storage, shape_trace, declaration_trace}
 use Rattle.gc_view.specs.Heaps.{HeapObject}
 use Rattle.gc_view.specs.Slots.{StorageSlot, element_slots, elements_from, shape_slots}
@@ -25,7 +25,7 @@ use Rattle.gc_model.specs.Values.{Object, struct, array, host, exception}
 use Rattle.gc_model.specs.Reach.{object_values, IsHost}
 use Rattle.gc_model.specs.Forms.{Names}
 use Rattle.gc_model.specs.Standing.{Stands}
-use Rattle.gc_model.proofs.ObjectShapes.{shape_at, IsOfShape}
+use Rattle.gc_model.proofs.ObjectShapes.{IsOfShape}
 use Rattle.gc_model.proofs.ObjectStands.{StandsByShape}
 
 -- the offsets of elements of four bytes are those of words

@@ -10,7 +10,7 @@ use Rattle.std.proofs.lemmas.List.{length-append}
 use Rattle.std.proofs.lemmas.List.Sums.{sum-map}
 use Rattle.gc_types.specs.declared.kind.Layouts.{Layouts}
 use Rattle.gc_types.specs.declared.kind.Layouts.TheVariants.{Null, Counting, Copying}
-use Rattle.gc_types.specs.Declarations.{Declaration}
+use Rattle.gc_types.specs.Declarations.{Declaration, shape_at}
 use Rattle.gc_types.specs.Layouts.{struct_base}
 use Rattle.gc_roots.specs.Roots.{Root, root}
 use Rattle.gc_view.specs.Heaps.{HeapObject}
@@ -27,7 +27,6 @@ use Rattle.gc_model.specs.RootPoints.{OwnedBy, PendingBy}
 use Rattle.gc_model.specs.Stores.{StoreView}
 use Rattle.gc_model.specs.Holds.{Holds}
 use Rattle.gc_model.proofs.HeldObjects.{object_held}
-use Rattle.gc_model.proofs.ObjectShapes.{shape_at}
 use Rattle.gc_model.proofs.ObjectStands.{stands_by_shape}
 use Rattle.gc_model.proofs.SlotObjects.{AreWordsOf, references_are_words}
 use Rattle.gc_heap.specs.References.{references, reference_offsets, word_in}

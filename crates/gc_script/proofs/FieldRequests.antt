@@ -26,7 +26,8 @@ use Rattle.gc_script.specs.Slots.{RunnerView}
 use Rattle.gc_script.specs.State.{State, HoldsState}
 use Rattle.gc_script.specs.Shapes as shapes
 use Rattle.gc_script.specs.Steps.{first_failing, any_unset, count_in, all_value_tests, fields_tests}
-use Rattle.gc_script.specs.Requested.{type_of, requested_fields}
+use Rattle.gc_values.specs.Filling.{asked_type}
+use Rattle.gc_script.specs.Requested.{requested_fields}
 use Rattle.gc_script.specs.Run.{WantsAfter, RunsOn, shape_bytes}
 use Rattle.gc_script.specs.Named.{type_at}
 use Rattle.gc_script.specs.Values.{CanStoreRaw, AllRawStorable, typed_tests}
@@ -46,13 +47,13 @@ declaration_exception None fields e = absurd (none-some fields e)
 declaration_exception (Some d) fields e = shape_exception d.shape fields e
 
 -- the fields of what is requested are those of its type
-pub requested_types : (types : List Declaration) (request : Place) (fields : List FieldType) → requested_fields types request ≡ Some fields → fields_at types (type_of request) ≡ Some fields
+pub requested_types : (types : List Declaration) (request : Place) (fields : List FieldType) → requested_fields types request ≡ Some fields → fields_at types (asked_type request) ≡ Some fields
 requested_types types (place.Struct ty) fields e = struct_types types ty fields e
 requested_types types (place.Exn ty tag) fields e = declaration_exception (slice_get types ty) fields e
 requested_types types (place.Array ty n) fields e = absurd (none-some fields e)
 
 -- values that may be stored in them may be placed
-pub fields_request : (layouts : Layouts) (store : StoreView ℕ) (request : Place) (raws : List RawValue) (fields : List FieldType) → requested_fields store.types request ≡ Some fields → length raws ≡ length fields → AllRawStorable layouts store (types_of.Fields (type_of request)) raws
+pub fields_request : (layouts : Layouts) (store : StoreView ℕ) (request : Place) (raws : List RawValue) (fields : List FieldType) → requested_fields store.types request ≡ Some fields → length raws ≡ length fields → AllRawStorable layouts store (types_of.Fields (asked_type request)) raws
     → CanPlaceFields ℕ layouts store (requested_fields store.types request) raws
 fields_request layouts store request raws fields declared many all = record {
   fields = fields;

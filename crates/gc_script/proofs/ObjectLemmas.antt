@@ -7,7 +7,7 @@ use Rattle.std.proofs.lemmas.Option.{none-some}
 use Rattle.gc_types.specs.declared.kind.Layouts.{Layouts}
 use Rattle.gc_types.specs.declared.kind.TypeKind.TheVariants as kinds
 use Rattle.gc_types.specs.declared.value.FieldType.{FieldType}
-use Rattle.gc_types.specs.Declarations.{Declaration, Shape, struct_of, array_of, exn_of, func_of, shape_kind, shape_fields, declaration_fields, constant_field, elem_at}
+use Rattle.gc_types.specs.Declarations.{Declaration, Shape, struct_of, array_of, exn_of, func_of, shape_kind, shape_fields, declaration_fields, constant_field, elem_at, shape_at}
 use Rattle.gc_types.specs.Layouts.{struct_base, exception_base}
 use Rattle.gc_view.specs.Heaps.{HeapObject}
 use Rattle.gc_view.specs.Slots.{shape_slots}
@@ -19,7 +19,7 @@ use Rattle.gc_model.specs.Stores.{StoreView}
 use Rattle.gc_model.specs.Holds.{HoldsTable, naming, Stands}
 use Rattle.gc_model.proofs.HeldObjects.{object_held}
 use Rattle.gc_store.proofs.HandleWords.{named_held}
-use Rattle.gc_model.proofs.ObjectShapes.{shape_at, shape_value_type, value_type_is}
+use Rattle.gc_model.proofs.ObjectShapes.{shape_value_type, value_type_is}
 use Rattle.gc_model.proofs.ObjectStands.{StandsByShape, stands_by_shape}
 use Rattle.gc_values.specs.declared.root.GcRootIndex.{GcRootIndex}
 use Rattle.gc_values.specs.declared.root.RootedObject.{RootedObject}

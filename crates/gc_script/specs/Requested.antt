@@ -27,11 +27,6 @@ class_of (place.Struct ty) = class.Any
 class_of (place.Exn ty tag) = class.Exn
 class_of (place.Array ty n) = class.Any
 
-abbrev pub type_of : Place → ℕ
-type_of (place.Struct ty) = ty
-type_of (place.Exn ty tag) = ty
-type_of (place.Array ty n) = ty
-
 -- the fields of a type of that kind
 abbrev pub fields_of_kind : List Declaration → ℕ → TypeKind → Option (List FieldType)
 fields_of_kind types ty kind.Struct = struct_fields_at types ty

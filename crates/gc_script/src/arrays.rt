@@ -1,6 +1,7 @@
 //! The commands that make arrays.
 
-ghost use Rattle.std.specs.Prelude.{◌≡◌, OnErr};
+ghost use Rattle.std.specs.Prelude.{◌≡◌, Some, option_map, IfSome, OnErr};
+ghost use Rattle.gc_types.specs.Declarations.{elem_at, shape_at};
 ghost use Rattle.gc_commands.specs.declared.command.Command.TheVariants as Command;
 ghost use Rattle.gc_script.specs.Endings.{answer_of};
 ghost use Rattle.gc_script.specs.State.{State, HoldsState};
@@ -15,7 +16,18 @@ use crate::values::{any_unset, check_elements, check_value, operand_value};
 use gc_commands::{Operand, Refusal};
 use gc_heap::GcHeap;
 use gc_store::{Place, ResourceLimiter, Store};
-use gc_types::VMSharedTypeIndex;
+use gc_types::{FieldType, TypeShape, Types, VMSharedTypeIndex};
+use std::rc::Rc;
+
+/// What an array type lists, with the type of its elements; None where the index names no array type.
+fn array_shape(types: &Types, ty: VMSharedTypeIndex) -> Option<(&Rc<TypeShape>, &FieldType)>
+    ensures element { option_map (λ found. found.1.now) result ≡ elem_at types.now.declarations ty }
+    ensures listed { IfSome result (λ found. shape_at types.now.declarations ty ≡ Some found.0.now.value) }
+{
+    let shape = types.shape(ty)?;
+    let element = shape.elem_type()?;
+    Some((shape, element))
+}
 
 impl Runner {
     /// Makes an array of type `t` whose `len` elements all hold the operand, and puts it into register `d`.
@@ -37,7 +49,7 @@ impl Runner {
         ensures same { IsSameStore store.old store.new }
     {
         let ty = VMSharedTypeIndex::new(t);
-        let Some(element) = store.types().elem_type(ty) else {
+        let Some((shape, element)) = array_shape(store.types(), ty) else {
             return Ending::Refused(Refusal::NoSuchName);
         };
         let Some(value) = operand_value(&self.registers, operand) else {
@@ -48,14 +60,13 @@ impl Runner {
                 return Ending::Refused(refusal);
             }
         }
-        place(
-            &mut self.registers,
-            store,
-            limiter,
-            d,
-            Place::Array(ty, len),
-            NewValues::Same(&value),
-        )
+        let Ok(shape) = shape.clone() else {
+            return Ending::OutOfMemory;
+        };
+        let request = Place::Array(ty, len);
+        let values = NewValues::Same(&value);
+        let registers = &mut self.registers;
+        place(registers, store, limiter, d, request, &shape, values)
     }
 
     /// Makes an array of type `t` of these elements, and puts it into register `d`.
@@ -74,7 +85,7 @@ impl Runner {
         ensures same { IsSameStore store.old store.new }
     {
         let ty = VMSharedTypeIndex::new(t);
-        let Some(element) = store.types().elem_type(ty) else {
+        let Some((shape, element)) = array_shape(store.types(), ty) else {
             return Ending::Refused(Refusal::NoSuchName);
         };
         if any_unset(&self.registers, operands) {
@@ -87,14 +98,13 @@ impl Runner {
         let Ok(len) = u32::try_from(operands.len()) else {
             return Ending::Refused(Refusal::TooLarge);
         };
-        place(
-            &mut self.registers,
-            store,
-            limiter,
-            d,
-            Place::Array(ty, len),
-            NewValues::Operands(operands),
-        )
+        let Ok(shape) = shape.clone() else {
+            return Ending::OutOfMemory;
+        };
+        let request = Place::Array(ty, len);
+        let values = NewValues::Operands(operands);
+        let registers = &mut self.registers;
+        place(registers, store, limiter, d, request, &shape, values)
     }
 
     /// Makes an array of type `t`, whose elements are 8 bits wide, of these bytes, and puts it into register
@@ -114,7 +124,7 @@ impl Runner {
         ensures same { IsSameStore store.old store.new }
     {
         let ty = VMSharedTypeIndex::new(t);
-        let Some(element) = store.types().elem_type(ty) else {
+        let Some((shape, element)) = array_shape(store.types(), ty) else {
             return Ending::Refused(Refusal::NoSuchName);
         };
         if !element.element_type.is_i8() {
@@ -124,13 +134,12 @@ impl Runner {
         let Ok(len) = u32::try_from(bytes.len()) else {
             return Ending::Refused(Refusal::TooLarge);
         };
-        place(
-            &mut self.registers,
-            store,
-            limiter,
-            d,
-            Place::Array(ty, len),
-            NewValues::Bytes(bytes),
-        )
+        let Ok(shape) = shape.clone() else {
+            return Ending::OutOfMemory;
+        };
+        let request = Place::Array(ty, len);
+        let values = NewValues::Bytes(bytes);
+        let registers = &mut self.registers;
+        place(registers, store, limiter, d, request, &shape, values)
     }
 }

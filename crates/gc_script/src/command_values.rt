@@ -11,6 +11,7 @@ use gc_heap::GcHeap;
 use gc_owner::HeapOwner;
 use gc_refs::VMGcRef;
 use gc_store::{Contents, Place, RawValue};
+use gc_types::TypeShape;
 use gc_values::interned::{InternedValues, given_values};
 use gc_values::{ContentSource, EachFrom};
 
@@ -41,6 +42,7 @@ impl ContentSource for CommandValues<'_> {
         interned: &InternedValues,
         gc_ref: &VMGcRef,
         request: &Place,
+        shape: &TypeShape,
     ) {
         match self.values {
             NewValues::Operands(operands) => {
@@ -49,13 +51,13 @@ impl ContentSource for CommandValues<'_> {
                     operands,
                 };
                 let each = EachFrom { values: &values };
-                each.fill(owner, interned, gc_ref, request);
+                each.fill(owner, interned, gc_ref, request, shape);
             }
             NewValues::Same(value) => {
-                Contents::Same(value).fill(owner, interned, gc_ref, request);
+                Contents::Same(value).fill(owner, interned, gc_ref, request, shape);
             }
             NewValues::Bytes(bytes) => {
-                Contents::Bytes(bytes).fill(owner, interned, gc_ref, request);
+                Contents::Bytes(bytes).fill(owner, interned, gc_ref, request, shape);
             }
         }
     }

@@ -1,6 +1,7 @@
 //! The commands that make objects and small integers.
 
-ghost use Rattle.std.specs.Prelude.{◌≡◌, ℕ, option_copied, OnErr};
+ghost use Rattle.std.specs.Prelude.{◌≡◌, ℕ, List, Some, option_copied, option_map, IfSome, OnErr};
+ghost use Rattle.gc_types.specs.Declarations.{Declaration, shape_at};
 ghost use Rattle.gc_commands.specs.declared.command.Command.TheVariants as Command;
 ghost use Rattle.gc_model.specs.Values.{Object};
 ghost use Rattle.gc_script.specs.Endings.{answer_of};
@@ -14,6 +15,7 @@ ghost use Rattle.gc_script.specs.Run.{RunsOne, RunsOn, GoesOn};
 ghost use Rattle.gc_store.specs.Requests.{CanPlaceIn, IsObjectOf};
 ghost use Rattle.gc_script.specs.Wants.{IsUnrefused, MayWant};
 ghost use Rattle.gc_store.specs.Stores.{IsSameStore};
+ghost use Rattle.gc_values.specs.Filling.{asked_type};
 
 use crate::command_values::CommandValues;
 use crate::ending::Ending;
@@ -25,7 +27,8 @@ use gc_heap::GcHeap;
 use gc_refs::I31;
 use gc_store::laws::stores_hold_tables;
 use gc_store::{GcClass, Place, PlaceFault, RawValue, ResourceLimiter, RootFault, Store};
-use gc_types::{FieldType, TypeKind, Types, VMSharedTypeIndex};
+use gc_types::{FieldType, TypeKind, TypeShape, Types, VMSharedTypeIndex};
+use std::rc::Rc;
 
 /// The class of references to what is requested.
 fn class_of(request: &Place) -> GcClass
@@ -38,26 +41,33 @@ fn class_of(request: &Place) -> GcClass
     }
 }
 
-/// The fields of a struct or an exception type, where it is of that kind, and else None.
-fn fields_of_kind(types: &Types, ty: VMSharedTypeIndex, kind: TypeKind) -> Option<&[FieldType]>
-    ensures { option_copied result ≡ fields_of_kind types.now.declarations ty kind }
+/// The fields of a struct or an exception that its type lists, where it is of that kind, and else None.
+fn fields_of_kind(shape: &TypeShape, kind: TypeKind) -> Option<&[FieldType]>
+    ensures { (types : List Declaration) (ty : ℕ) → shape_at types ty ≡ Some shape.now → option_copied result ≡ fields_of_kind types ty kind }
 {
-    if types.kind_of(ty) == Some(kind) {
-        types.fields(ty)
+    if shape.kind() == kind {
+        shape.fields()
     } else {
         None
     }
 }
 
-/// The fields of what is requested; None where there is no such type, or it is an array.
-fn requested_fields<'a>(types: &'a Types, request: &Place) -> Option<&'a [FieldType]>
-    ensures { option_copied result ≡ requested_fields types.now.declarations request.now }
+/// What the type of a request lists, with its fields; None where there is no such type, it is of another kind, or an array is
+/// requested.
+fn requested_shape<'a>(
+    types: &'a Types,
+    request: &Place,
+) -> Option<(&'a Rc<TypeShape>, &'a [FieldType])>
+    ensures fields { option_map (λ found. found.1.now) result ≡ requested_fields types.now.declarations request.now }
+    ensures listed { IfSome result (λ found. shape_at types.now.declarations (asked_type request.now) ≡ Some found.0.now.value) }
 {
-    match *request {
-        Place::Struct(ty) => fields_of_kind(types, ty, TypeKind::Struct),
-        Place::Exn(ty, _) => fields_of_kind(types, ty, TypeKind::Exn),
+    let shape = types.shape(request.ty())?;
+    let fields = match *request {
+        Place::Struct(_) => fields_of_kind(shape, TypeKind::Struct),
+        Place::Exn(..) => fields_of_kind(shape, TypeKind::Exn),
         Place::Array(..) => None,
-    }
+    };
+    Some((shape, fields?))
 }
 
 /// The values of an object that a command makes.
@@ -71,15 +81,18 @@ pub(crate) enum NewValues<'a> {
     Bytes(&'a [u8]),
 }
 
-/// Places an object that may be placed and has no function and no continuation, and puts it into register `d`.
+/// Places an object that may be placed, whose type lists `shape`, and that has no function and no continuation, and puts it into
+/// register `d`.
 pub(crate) fn place<H: GcHeap, L: ResourceLimiter>(
     registers: &mut Registers,
     store: &mut Store<H, u64>,
     limiter: &mut L,
     d: u16,
     request: Place,
+    shape: &TypeShape,
     values: NewValues<'_>,
 ) -> Ending
+    requires listed { shape_at store.old.types (asked_type request) ≡ Some shape.now }
     requires can { CanPlaceIn ℕ H.KIND store.old request (contents_of registers.old values) }
     requires plain { IsPlainRequest request (contents_of registers.old values) }
     ensures runs { (s : State) (rest : RunnerRest) (object : State → Object ℕ) → HoldsState H.KIND store.old (with_registers registers.old rest) s
@@ -94,7 +107,7 @@ pub(crate) fn place<H: GcHeap, L: ResourceLimiter>(
     }
     let class = class_of(&request);
     let contents = CommandValues { registers, values };
-    match store.place(limiter, request, contents) {
+    match store.place_shaped(limiter, request, shape, contents) {
         Ok(handle) => {
             registers.set(d, RawValue::Ref(class, Some(handle)));
             Ending::Done
@@ -127,7 +140,7 @@ impl Runner {
             → IsUnrefused (first_failing (requested_tests H.KIND s request operands.now))) }
         ensures same { IsSameStore store.old store.new }
     {
-        let Some(fields) = requested_fields(store.types(), &request) else {
+        let Some((shape, fields)) = requested_shape(store.types(), &request) else {
             return Ending::Refused(Refusal::NoSuchName);
         };
         if any_unset(&self.registers, operands) {
@@ -139,14 +152,12 @@ impl Runner {
         if let Err(refusal) = check_fields(store, &self.registers, fields, operands) {
             return Ending::Refused(refusal);
         }
-        place(
-            &mut self.registers,
-            store,
-            limiter,
-            d,
-            request,
-            NewValues::Operands(operands),
-        )
+        let Ok(shape) = shape.clone() else {
+            return Ending::OutOfMemory;
+        };
+        let values = NewValues::Operands(operands);
+        let registers = &mut self.registers;
+        place(registers, store, limiter, d, request, &shape, values)
     }
 
     /// Makes a struct of type `t` with the values of these operands, and puts it into register `d`, as `run_one` does for

@@ -68,16 +68,6 @@ impl ValueSource for PlainOperands<'_> {
     ghost given = { λ given. set_operands given.registers.now given.operands.now };
 
     #[inline(always)]
-    fn count(&self) -> usize {
-        self.operands.len()
-    }
-
-    #[inline(always)]
-    fn side_values(&self) -> &[RawValue] {
-        &[]
-    }
-
-    #[inline(always)]
     fn write_at<H: GcHeap, D: Drop>(
         &self,
         owner: &mut HeapOwner<H, D>,
@@ -88,5 +78,15 @@ impl ValueSource for PlainOperands<'_> {
     ) {
         let operand = &self.operands[index];
         write_operand(owner, interned, gc_ref, slot, self.registers, operand);
+    }
+
+    #[inline(always)]
+    fn count(&self) -> usize {
+        self.operands.len()
+    }
+
+    #[inline(always)]
+    fn side_values(&self) -> &[RawValue] {
+        &[]
     }
 }

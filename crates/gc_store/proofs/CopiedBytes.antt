@@ -6,7 +6,7 @@ use Rattle.std.proofs.lemmas.Option.{same_Some, slice_get_within}
 use Rattle.gc_types.specs.declared.kind.Layouts.{Layouts}
 use Rattle.gc_types.specs.declared.value.StorageType.{StorageType}
 use Rattle.gc_types.specs.declared.value.StorageType.TheVariants as storage
-use Rattle.gc_types.specs.Declarations.{Declaration, Shape, array_of}
+use Rattle.gc_types.specs.Declarations.{Declaration, Shape, array_of, shape_at}
 use Rattle.gc_types.specs.Layouts.{struct_base, array_base, storage_width}
 use Rattle.gc_view.specs.Heaps.{HeapObject}
 use Rattle.gc_view.specs.Slots.{StorageSlot, shape_slots, element_slots, elements_from}
@@ -23,7 +23,7 @@ use Rattle.gc_model.specs.Forms.{Names as Naming, naming, LiesAs}
 use Rattle.gc_model.specs.Standing.{ArrayStands, ValuesLie}
 use Rattle.gc_model.specs.Holds.{Placing, Holds, Stands}
 use Rattle.gc_model.proofs.Elements.{byte_elements}
-use Rattle.gc_model.proofs.ObjectShapes.{shape_at, array_shape}
+use Rattle.gc_model.proofs.ObjectShapes.{array_shape}
 use Rattle.gc_model.proofs.ReadingBack.{number_lying}
 use Rattle.gc_values.specs.declared.root.GcRootIndex.{GcRootIndex}
 use Rattle.gc_values.specs.declared.root.RootFault.{RootFault}

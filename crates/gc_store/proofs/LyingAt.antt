@@ -5,7 +5,7 @@ use Rattle.std.proofs.lemmas.Option.{same_Some}
 use Rattle.gc_types.specs.declared.kind.Layouts.{Layouts}
 use Rattle.gc_types.specs.declared.kind.TypeKind.TheVariants as kinds
 use Rattle.gc_types.specs.declared.kind.VMGcKind.TheVariants.{StructRef, ArrayRef, ExnRef}
-use Rattle.gc_types.specs.Declarations.{Declaration, Shape, struct_of, array_of, exn_of, shape_kind}
+use Rattle.gc_types.specs.Declarations.{Declaration, Shape, struct_of, array_of, exn_of, shape_kind, shape_at}
 use Rattle.gc_types.specs.Layouts.{struct_base, storage_width}
 use Rattle.gc_view.specs.Heaps.{HeapObject}
 use Rattle.gc_view.specs.Slots.{StorageSlot, shape_slots}
@@ -19,7 +19,6 @@ use Rattle.gc_model.specs.Reach.{IsHost}
 use Rattle.gc_model.specs.Stores.{StoreView}
 use Rattle.gc_model.specs.Forms.{Form, Names as Naming, naming, number_at, storage_form}
 use Rattle.gc_model.specs.Holds.{Placing, Holds, Stands}
-use Rattle.gc_model.proofs.ObjectShapes.{shape_at}
 use Rattle.gc_model.proofs.Words.{place_even}
 use Rattle.gc_model.proofs.ObjectStands.{StandsByShape, value_not_host, LyingValue, shape_value, slot_stands}
 use Rattle.gc_values.specs.declared.root.GcRootIndex.{GcRootIndex}

@@ -1,5 +1,5 @@
 -- What is made where an object is requested: its shape, its size, and slots that are 0.
-use Rattle.std.proofs.Common.{◌≡◌, ℕ, zero, suc, ◌+◌, ◌-◌, ◌^◌, ◌<◌, ◌≤◌, List, [], ◌∷◌, ◌++◌, length, map, take, drop, replicate, Some, refl, sym, ap, ◌∙◌, arith}
+use Rattle.std.proofs.Common.{◌≡◌, ℕ, zero, suc, ◌+◌, ◌-◌, ◌^◌, ◌<◌, ◌≤◌, List, [], ◌∷◌, ◌++◌, length, map, take, drop, replicate, Bor, Some, refl, sym, ap, ◌∙◌, subst, arith}
 use Rattle.std.specs.Prelude.{option_map}
 use Rattle.std.specs.Int.{w32, to_le_bytes}
 use Rattle.std.specs.List.{slice_get}
@@ -7,10 +7,12 @@ use Rattle.std.specs.FinMap.{get}
 use Rattle.std.proofs.lemmas.Option.{same_Some}
 use Rattle.std.proofs.lemmas.List.{length-append, length-replicate, drop-replicate, take-replicate}
 use Rattle.std.proofs.lemmas.Nat.{from_le_bytes-to_le_bytes_4}
+use Rattle.gc_types.specs.declared.layout.GcArrayLayout.{GcArrayLayout}
+use Rattle.gc_types.specs.declared.layout.GcStructLayout.{GcStructLayout}
 use Rattle.gc_types.specs.declared.value.FieldType.{FieldType}
 use Rattle.gc_types.specs.declared.kind.Layouts.{Layouts}
 use Rattle.gc_types.specs.declared.kind.Layouts.TheVariants.{Null, Counting, Copying}
-use Rattle.gc_types.specs.Declarations.{Declaration, Shape, struct_of, array_of, exn_of, constant_field, struct_fields_at, elem_at}
+use Rattle.gc_types.specs.Declarations.{Declaration, Shape, struct_of, array_of, exn_of, constant_field, struct_fields_at, elem_at, shape_at}
 use Rattle.gc_types.specs.Layouts.{struct_base, array_base, exception_base, storage_width, struct_layout, exn_layout, array_layout, fields_end, layout_at, array_layout_at}
 use Rattle.gc_types.specs.declared.value.Tag.{Tag}
 use Rattle.gc_types.specs.declared.value.ValType.{ValType}
@@ -21,14 +23,16 @@ use Rattle.gc_view.proofs.Spacing.{shape_first}
 use Rattle.gc_view.proofs.Layouts.{stored_size-le, fields_end-le, round_up-le, storage_width_positive}
 use Rattle.gc_view.proofs.SlotLemmas.{shape_spaced, slot_range}
 use Rattle.gc_heap.specs.Heap.{new_struct, new_array, array_size}
+use Rattle.gc_owner.specs.declared.allocate.Description.{Description}
+use Rattle.gc_owner.specs.declared.allocate.Description.TheVariants as of
 use Rattle.gc_owner.specs.Makes.{Describes}
 use Rattle.gc_owner.specs.Owners.{OwnerView}
-use Rattle.gc_model.proofs.ObjectShapes.{shape_at, struct_shape, array_shape}
+use Rattle.gc_model.proofs.ObjectShapes.{struct_shape, array_shape}
 use Rattle.gc_values.specs.declared.request.Place.{Place}
 use Rattle.gc_values.specs.declared.request.Place.TheVariants as place
 use Rattle.gc_values.specs.Filling.{AreBlank, asked_type, requested_kind, IsOfAskedKind}
 use Rattle.gc_values.specs.HeldSlots.{HasHeapShape}
-use Rattle.gc_values.specs.Making.{IsSizeOf, described_by}
+use Rattle.gc_values.specs.Making.{IsDescribedBy, IsSizeOf}
 use Rattle.gc_values.proofs.ShapeSlots.{laid_out}
 
 -- What is made for a request, by the types.
@@ -51,7 +55,37 @@ pub record IsNew (D : Type 0) (layouts : Layouts) (types : List Declaration) (re
   pub stored : struct_base layouts + length blank.bytes ≡ stored_size layouts (shape_size layouts shape count)
   pub are_blank : AreBlank (struct_base layouts) (shape_slots layouts shape count) blank.bytes
   pub of_kind : HasAskedKind request blank
-  pub described : (v : OwnerView D) → v.types.declarations ≡ types → Describes layouts v (described_by request) blank (shape_size layouts shape count)
+  pub described : (v : OwnerView D) → v.types.declarations ≡ types → (d : Description) → IsDescribedBy layouts types request d → Describes layouts v d blank (shape_size layouts shape count)
+
+-- what is made by a description of a request is what the layout of its type tells
+module _ {D : Type 0} (layouts : Layouts) (types : List Declaration) (ty : ℕ) where
+  module _ (layout : GcStructLayout) (laid : layout_at layouts types ty ≡ Some layout) (v : OwnerView D) (types_are : v.types.declarations ≡ types) where
+    object_described : (named : ℕ) (found : Bor GcStructLayout) → named ≡ ty → layout_at layouts types ty ≡ Some found.now → Describes layouts v (of.Object named found) (new_struct layouts ty layout) layout.size
+    object_described named found is found_is =
+        let same : layout ≡ found.now = same_Some layout found.now (sym laid ∙ found_is) in (
+          ap (λ (ts : List Declaration). layout_at layouts ts named) types_are ∙ ap (layout_at layouts types) is ∙ found_is,
+          ((λ i. new_struct layouts (sym is i) (same i)), ap (λ (l : GcStructLayout). l.size) same),
+        )
+
+    pub fields_described : (d : Description) → IsDescribedBy layouts types (place.Struct ty) d → Describes layouts v d (new_struct layouts ty layout) layout.size
+    fields_described (of.Object named found) (is, found_is) = object_described named found is found_is
+    fields_described (of.Array named count found) is = absurd is
+    fields_described (of.External id) is = absurd is
+
+    pub exn_described : (tag : Tag) (d : Description) → IsDescribedBy layouts types (place.Exn ty tag) d → Describes layouts v d (new_struct layouts ty layout) layout.size
+    exn_described tag (of.Object named found) (is, found_is) = object_described named found is found_is
+    exn_described tag (of.Array named count found) is = absurd is
+    exn_described tag (of.External id) is = absurd is
+
+  pub array_described : (count : ℕ) (layout : GcArrayLayout) → count < 2 ^ 32 → array_layout_at layouts types ty ≡ Some layout → (v : OwnerView D) → v.types.declarations ≡ types → (d : Description)
+      → IsDescribedBy layouts types (place.Array ty count) d → Describes layouts v d (new_array layouts ty count layout) (array_size layout count)
+  array_described count layout few laid v types_are (of.Array named length found) (is, (length_is, found_is)) =
+      let same : layout ≡ found.now = same_Some layout found.now (sym laid ∙ found_is) in (
+        ap (λ (ts : List Declaration). array_layout_at layouts ts named) types_are ∙ ap (array_layout_at layouts types) is ∙ found_is,
+        (subst (λ (n : ℕ). n < 2 ^ 32) (sym length_is) few, ((λ i. new_array layouts (sym is i) (sym length_is i) (same i)), (λ i. array_size (same i) (sym length_is i)))),
+      )
+  array_described count layout few laid v types_are (of.Object named found) is = absurd is
+  array_described count layout few laid v types_are (of.External id) is = absurd is
 
 drop_behind : (xs ys : List ℕ) (n : ℕ) → length xs ≤ n → drop n (xs ++ ys) ≡ drop (n - length xs) ys
 drop_behind [] ys n behind = ap (λ k. drop k ys) (let e : n ≡ n - length {A = ℕ} [] = omega arith in e)
@@ -105,7 +139,7 @@ new_struct_is D layouts types ty fields declared =
       stored = omega (arith, length-replicate {A = ℕ} zeros 0, least, base);
       of_kind = refl;
       are_blank = zeros_lie layouts (struct_of fields) 0 [] zeros (omega arith) (omega (arith, least, base));
-      described = λ v types_are. (struct_layout layouts fields, (ap (λ (ts : List Declaration). layout_at layouts ts ty) types_are ∙ laid, (refl, refl)));
+      described = λ v types_are d is. fields_described layouts types ty (struct_layout layouts fields) laid v types_are d is;
     }
 
 -- an exception
@@ -137,7 +171,7 @@ new_exn_is D layouts types ty tag params declared =
       stored = omega (arith, length-replicate {A = ℕ} zeros 0, least, base, front);
       of_kind = refl;
       are_blank = zeros_lie layouts (exn_of params) 0 [] zeros (omega (arith, front)) (omega (arith, least, base, front));
-      described = λ v types_are. (exn_layout layouts params, (ap (λ (ts : List Declaration). layout_at layouts ts ty) types_are ∙ laid, (refl, refl)));
+      described = λ v types_are d is. exn_described layouts types ty (exn_layout layouts params) laid v types_are tag d is;
     }
 
 -- an array
@@ -162,5 +196,5 @@ new_array_is D layouts types ty count element few declared =
       stored = omega (arith, long, least, base, first);
       of_kind = refl;
       are_blank = zeros_lie layouts (array_of element) count (to_le_bytes w32 count) zeros (omega (arith, base)) (omega (arith, least, base, first));
-      described = λ v types_are. (layout, (ap (λ (ts : List Declaration). array_layout_at layouts ts ty) types_are ∙ laid, (few, (refl, refl))));
+      described = λ v types_are d is. array_described layouts types ty count layout few laid v types_are d is;
     }

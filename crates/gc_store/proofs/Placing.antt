@@ -6,7 +6,7 @@ use Rattle.std.proofs.lemmas.Option.{slice_get_within}
 use Rattle.gc_types.specs.declared.kind.Layouts.{Layouts}
 use Rattle.gc_types.specs.declared.kind.Layouts.TheVariants.{Null, Counting, Copying}
 use Rattle.gc_types.specs.declared.kind.VMGcKind.TheVariants.{ArrayRef, ExnRef}
-use Rattle.gc_types.specs.Declarations.{Declaration, Shape, TypeTable, struct_of, array_of, exn_of, func_of}
+use Rattle.gc_types.specs.Declarations.{Declaration, Shape, TypeTable, struct_of, array_of, exn_of, func_of, shape_at}
 use Rattle.gc_types.specs.Layouts.{round_up, struct_base}
 use Rattle.gc_owner.specs.declared.entry.RootEntry.{RootEntry}
 use Rattle.gc_owner.specs.RootColumns.{with_scoped, with_room}
@@ -35,7 +35,6 @@ use Rattle.gc_view.proofs.Layouts.{round_up-le}
 use Rattle.gc_heap.specs.Content.{IsHeap}
 use Rattle.gc_heap.specs.Heap.{IsTooLarge, allocated_after}
 use Rattle.gc_heap.proofs.NumberLemmas.{held_added}
-use Rattle.gc_model.proofs.ObjectShapes.{shape_at}
 use Rattle.gc_model.proofs.ObjectStands.{array_front}
 use Rattle.gc_policy.specs.Accounts.{Account, HoldsAccount, is_due, with_held}
 use Rattle.gc_policy.specs.Policy as policy

@@ -1,7 +1,8 @@
 //! Making objects of the table.
 
-ghost use Rattle.std.specs.Prelude.{◌≡◌, ◌≤◌, ◌+◌, ◌-◌, ◌<◌, ◌^◌, min, length, slice_index_or};
+ghost use Rattle.std.specs.Prelude.{◌≡◌, ◌≤◌, ◌+◌, ◌-◌, ◌<◌, ◌^◌, Some, min, length, slice_index_or};
 ghost use Rattle.gc_owner.specs.declared.entry.RootEntry as Root;
+ghost use Rattle.gc_types.specs.Declarations.{shape_at};
 ghost use Rattle.std.specs.Option.{option_map};
 ghost use Rattle.std.specs.Int.NonZero.{non_zero_u32_get};
 ghost use Rattle.gc_model.specs.Table.{Table};
@@ -9,6 +10,7 @@ ghost use Rattle.gc_model.specs.Values.{Object};
 ghost use Rattle.gc_policy.specs.Accounts.{Account, HoldsAccount, is_due};
 ghost use Rattle.gc_policy.specs.Policy.{policy_state};
 ghost use Rattle.gc_store.specs.Places.{Places};
+ghost use Rattle.gc_values.specs.Filling.{asked_type};
 ghost use Rattle.gc_store.specs.Requests.{CanPlaceIn, IsObjectOf};
 ghost use Rattle.gc_store.specs.Stores.{is_full, IsSameStore, scoped_places};
 
@@ -16,6 +18,7 @@ use crate::store::Store;
 use gc_heap::GcHeap;
 use gc_owner::{ResourceLimiter, RootEntry};
 use gc_refs::VMGcRef;
+use gc_types::TypeShape;
 use gc_values::contents::ContentSource;
 use gc_values::engine::StoreId;
 use gc_values::faults::PlaceFault;
@@ -89,14 +92,38 @@ impl<H: GcHeap, D: Drop> Store<H, D> {
         requires { CanPlaceIn D H.KIND self.old request (C.contents contents) }
         ensures same { IsSameStore self.old self.new }
         ensures spare { scoped_places self.old ≤ scoped_places self.new }
-        ensures places { (t : Table D) (a : Account) (o : Object D) → HoldsAccount H.KIND self.old t a → IsObjectOf self.old t request (C.contents contents) o
+        ensures places { (t : Table D) (a : Account) (o : Object D) → HoldsAccount H.KIND self.old t a
+            → IsObjectOf self.old t request (C.contents contents) o
+            → Places H.KIND self.old.alloc_counter o (policy_state t a (L.limits limiter.old)) (L.limits limiter.new) result self.new }
+    {
+        let shape = self.owner.types().shape(request.ty()).unwrap();
+        match shape.clone() {
+            Ok(shape) => self.place_shaped(limiter, request, &shape, contents),
+            Err(_) => Err(PlaceFault::Memory),
+        }
+    }
+
+    /// Places an object as `place` does, whose type lists `shape`: for callers that asked for it already.
+    pub fn place_shaped<L: ResourceLimiter, C: ContentSource + Drop>(
+        &mut self,
+        limiter: &mut L,
+        request: Place,
+        shape: &TypeShape,
+        contents: C,
+    ) -> Result<GcRootIndex, PlaceFault>
+        requires can { CanPlaceIn D H.KIND self.old request (C.contents contents) }
+        requires listed { shape_at self.old.types (asked_type request) ≡ Some shape.now }
+        ensures same { IsSameStore self.old self.new }
+        ensures spare { scoped_places self.old ≤ scoped_places self.new }
+        ensures places { (t : Table D) (a : Account) (o : Object D) → HoldsAccount H.KIND self.old t a
+            → IsObjectOf self.old t request (C.contents contents) o
             → Places H.KIND self.old.alloc_counter o (policy_state t a (L.limits limiter.old)) (L.limits limiter.new) result self.new }
     {
         self.owner.is_ready();
         let is_full = self.roots_full();
         let given = contents.side_values(&request);
         find_room(*self.slot_counts.allocator(), &mut self.interned, given)?;
-        let Some(size) = object_size::<H>(self.owner.types(), &request) else {
+        let Some(size) = object_size::<H>(&request, shape) else {
             return Err(PlaceFault::TooLarge);
         };
         if is_full {
@@ -108,7 +135,7 @@ impl<H: GcHeap, D: Drop> Store<H, D> {
         }
         let is_due = count_allocation(&mut self.tries, self.config.alloc_counter);
         let first_pages = self.config.first_pages;
-        let description = description_of(&request);
+        let description = description_of::<H>(&request, shape);
         match make_object(
             &mut self.owner,
             limiter,
@@ -120,7 +147,7 @@ impl<H: GcHeap, D: Drop> Store<H, D> {
             Ok(index) => {
                 intern_all(&mut self.interned, given);
                 let holder = holder_of(self.owner.scoped(), index);
-                contents.fill(&mut self.owner, &self.interned, &holder, &request);
+                contents.fill(&mut self.owner, &self.interned, &holder, &request, shape);
                 Ok(scoped_handle(self.id, self.owner.generation(), index))
             }
             Err(fault) => Err(fault),

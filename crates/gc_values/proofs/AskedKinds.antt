@@ -1,13 +1,13 @@
--- What the type of an object that is to be filled is, by the kind that was requested.
-use Rattle.std.proofs.Common.{◌≡◌, ℕ, List, Some, None, refl, sym, ◌∙◌, subst}
+-- What the type of an object that is to be filled lists, by the kind that was requested.
+use Rattle.std.proofs.Common.{◌≡◌, ℕ, List, map, Some, None, refl, sym, ap, ◌∙◌, subst}
+use Rattle.std.proofs.lemmas.Option.{none-some, same_Some}
 use Rattle.gc_types.specs.declared.kind.VMGcKind.TheVariants.{ArrayRef}
-use Rattle.gc_types.specs.declared.value.FieldType.{FieldType}
-use Rattle.gc_types.specs.Declarations.{Shape, struct_of, array_of, exn_of, func_of, shape_elem, elem_at}
+use Rattle.gc_types.specs.Declarations.{Shape, struct_of, array_of, exn_of, func_of, constant_field, shape_at, shape_elem, shape_fields}
 use Rattle.gc_types.specs.declared.kind.Layouts.{Layouts}
+use Rattle.gc_types.specs.declared.value.FieldType.{FieldType}
 use Rattle.gc_view.specs.Heaps.{HeapObject}
 use Rattle.gc_view.specs.Slots.{StorageSlot}
 use Rattle.gc_owner.specs.Owners.{OwnerView}
-use Rattle.gc_model.proofs.ObjectShapes.{element_is}
 use Rattle.gc_values.specs.Words.{HandleRoots}
 use Rattle.gc_values.specs.HeldSlots.{HasHeapShape}
 use Rattle.gc_values.specs.Filling.{CanFill, IsOfAskedKind}
@@ -20,27 +20,24 @@ no_elem (array_of element) o n has other = absurd (other has.0)
 no_elem (exn_of params) o n has other = refl
 no_elem (func_of params results) o n has other = absurd has
 
--- an array does
-array_elem : (shape : Shape) (o : HeapObject) (n : ℕ) → HasHeapShape o shape n → o.kind ≡ ArrayRef → (element : FieldType) × (shape_elem shape ≡ Some element)
-array_elem (struct_of fields) o n has is = absurd (cc (sym has ∙ is))
-array_elem (array_of element) o n has is = (element, refl)
-array_elem (exn_of params) o n has is = absurd (cc (sym has ∙ is))
-array_elem (func_of params results) o n has is = absurd has
+-- and has fields
+fields_of : (shape : Shape) (o : HeapObject) (n : ℕ) → HasHeapShape o shape n → shape_elem shape ≡ None → (fields : List FieldType) × (shape_fields shape ≡ Some fields)
+fields_of (struct_of fields) o n has none = (fields, refl)
+fields_of (array_of element) o n has none = absurd (none-some element (sym none))
+fields_of (exn_of params) o n has none = (map constant_field params, refl)
+fields_of (func_of params results) o n has none = absurd has
 
-module _ {D : Type 0} {layouts : Layouts} {v : OwnerView D} {p ty : ℕ} {Fit : HandleRoots → List StorageSlot → Type 0} (can : CanFill layouts v p ty Fit) where
-  -- what the type has is what the object's shape has
-  elem_is : elem_at v.types.declarations ty ≡ shape_elem can.shape
-  elem_is =
-      subst (λ (n : ℕ). elem_at v.types.declarations n ≡ shape_elem can.shape) can.to_fill.of_type
-      (element_is v.types.declarations can.object.ty can.shape can.to_fill.is.declared)
+-- an object that is to be filled is of the shape that its type lists
+listed_is : {D : Type 0} {layouts : Layouts} {v : OwnerView D} {p ty : ℕ} {Fit : HandleRoots → List StorageSlot → Type 0} (can : CanFill layouts v p ty Fit) (shape : Shape) → shape_at v.types.declarations ty ≡ Some shape → shape ≡ can.shape
+listed_is {D} {layouts} {v} can shape declared = same_Some shape can.shape (sym declared ∙ ap (shape_at v.types.declarations) (sym can.to_fill.of_type) ∙ can.to_fill.is.declared)
 
-  pub struct_has_none : (n : ℕ) → IsOfAskedKind (place.Struct n) v.heap p → elem_at v.types.declarations ty ≡ None
-  struct_has_none n kind = elem_is ∙ no_elem can.shape can.object can.count can.to_fill.is.has (λ e. cc (sym (kind can.object can.to_fill.is.held) ∙ e))
+pub has_fields : {D : Type 0} {layouts : Layouts} {v : OwnerView D} {p ty : ℕ} {Fit : HandleRoots → List StorageSlot → Type 0} (can : CanFill layouts v p ty Fit) (shape : Shape) → shape_at v.types.declarations ty ≡ Some shape
+    → shape_elem shape ≡ None → (fields : List FieldType) × (shape_fields shape ≡ Some fields)
+has_fields can shape declared none = fields_of shape can.object can.count (subst (λ (s : Shape). HasHeapShape can.object s can.count) (sym (listed_is can shape declared)) can.to_fill.is.has) none
 
-  pub exn_has_none : (n : ℕ) (tag : _) → IsOfAskedKind (place.Exn n tag) v.heap p → elem_at v.types.declarations ty ≡ None
-  exn_has_none n tag kind = elem_is ∙ no_elem can.shape can.object can.count can.to_fill.is.has (λ e. cc (sym (kind can.object can.to_fill.is.held) ∙ e))
-
-  pub array_has_one : (n count : ℕ) → IsOfAskedKind (place.Array n count) v.heap p → (element : FieldType) × (elem_at v.types.declarations ty ≡ Some element)
-  array_has_one n count kind =
-      let one = array_elem can.shape can.object can.count can.to_fill.is.has (kind can.object can.to_fill.is.held) in
-      (one.0, elem_is ∙ one.1)
+-- an exception has no elements
+pub exn_has_none : {D : Type 0} {layouts : Layouts} {v : OwnerView D} {p ty : ℕ} {Fit : HandleRoots → List StorageSlot → Type 0} (can : CanFill layouts v p ty Fit) (shape : Shape) → shape_at v.types.declarations ty ≡ Some shape
+    → (n : ℕ) (tag : _) → IsOfAskedKind (place.Exn n tag) v.heap p → shape_elem shape ≡ None
+exn_has_none can shape declared n tag kind =
+    ap shape_elem (listed_is can shape declared)
+    ∙ no_elem can.shape can.object can.count can.to_fill.is.has (λ e. cc (sym (kind can.object can.to_fill.is.held) ∙ e))

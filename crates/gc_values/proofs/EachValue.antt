@@ -10,7 +10,7 @@ use Rattle.gc_types.specs.declared.value.HeapTopType.{HeapTopType}
 use Rattle.gc_types.specs.declared.value.HeapTopType.TheVariants as top
 use Rattle.gc_types.specs.Values.{unpacked, heap_top}
 use Rattle.gc_types.specs.declared.kind.Layouts.{Layouts}
-use Rattle.gc_types.specs.Declarations.{Shape}
+use Rattle.gc_types.specs.Declarations.{Shape, shape_at}
 use Rattle.gc_types.specs.Layouts.{struct_base, storage_width, value_width}
 use Rattle.gc_view.specs.Bytes.{put_bytes}
 use Rattle.gc_view.specs.Heaps.{HeapObject, HeapView}
@@ -28,7 +28,6 @@ use Rattle.gc_policy.proofs.RootsShown.{IsRooted, scoped_rooted, owned_rooted}
 use Rattle.gc_model.specs.Values.{Value}
 use Rattle.gc_model.specs.Forms.{Form, function_of, continuation_of, reference_of, top_form, storage_form, Names, InternedIds}
 use Rattle.gc_model.proofs.Lists.{slice_get-same_length}
-use Rattle.gc_model.proofs.ObjectShapes.{shape_at}
 use Rattle.gc_model.proofs.SlotWrites.{LieUpTo, lie_up_to-none, lie_up_to-step, lie_up_to-all}
 use Rattle.gc_model.proofs.StoredBytes.{stored_encoded}
 use Rattle.gc_model.proofs.PointParts.{IsEncodedAs}

@@ -6,7 +6,7 @@ use Rattle.std.proofs.lemmas.Option.{none-some}
 use Rattle.gc_types.specs.declared.value.StorageType.{StorageType}
 use Rattle.gc_types.specs.declared.value.StorageType.TheVariants as storage
 use Rattle.gc_types.specs.declared.kind.Layouts.{Layouts}
-use Rattle.gc_types.specs.Declarations.{Shape}
+use Rattle.gc_types.specs.Declarations.{Shape, shape_at}
 use Rattle.gc_types.specs.Layouts.{struct_base, storage_width}
 use Rattle.gc_view.specs.Bytes.{put_bytes}
 use Rattle.gc_view.specs.Heaps.{HeapObject}
@@ -23,7 +23,7 @@ use Rattle.gc_model.specs.Stored.{byte_value}
 use Rattle.gc_model.specs.Forms.{Names, InternedIds}
 use Rattle.gc_model.specs.Standing.{ValuesLie}
 use Rattle.gc_model.proofs.Elements.{byte_elements, equal_elements}
-use Rattle.gc_model.proofs.ObjectShapes.{shape_at, element_slot_at}
+use Rattle.gc_model.proofs.ObjectShapes.{element_slot_at}
 use Rattle.gc_values.specs.declared.slot.Slot.{Slot}
 use Rattle.gc_values.specs.declared.stored.Stored.{Stored}
 use Rattle.gc_values.specs.declared.root.RawValue.{RawValue}

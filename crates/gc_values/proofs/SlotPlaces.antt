@@ -10,7 +10,7 @@ use Rattle.gc_types.specs.declared.kind.Layouts.TheVariants.{Null, Counting, Cop
 use Rattle.gc_types.specs.declared.kind.VMGcKind.TheVariants.{ArrayRef, ExternRef}
 use Rattle.gc_types.specs.declared.layout.GcStructLayout.{GcStructLayout}
 use Rattle.gc_types.specs.declared.kind.TypeKind.TheVariants as kinds
-use Rattle.gc_types.specs.Declarations.{Declaration, Shape, struct_of, array_of, exn_of, func_of, shape_elem, shape_kind}
+use Rattle.gc_types.specs.Declarations.{Declaration, Shape, struct_of, array_of, exn_of, func_of, shape_elem, shape_kind, shape_at}
 use Rattle.gc_types.specs.Layouts.{struct_base, exception_base, array_base, storage_width, is_gc_storage, shape_layout, struct_layout, exn_layout, array_layout}
 use Rattle.gc_memory.specs.Lists.{In}
 use Rattle.gc_view.specs.Heaps.{HeapObject, HeapView}
@@ -28,7 +28,7 @@ use Rattle.gc_memory.proofs.ListLemmas.{contains_in, in_contains}
 use Rattle.gc_owner.specs.Owners.{OwnerView, CanBegin}
 use Rattle.gc_owner.specs.Tracing.{IsTraced}
 use Rattle.gc_owner.specs.Writes.{IsNumberPlace, IsReferencePlace}
-use Rattle.gc_model.proofs.ObjectShapes.{shape_at, element_is}
+use Rattle.gc_model.proofs.ObjectShapes.{element_is}
 use Rattle.gc_policy.proofs.CollectedOffsets.{shape_offsets, RefSlot, ref_slot, slot_followed}
 use Rattle.gc_values.specs.HeldSlots.{HasHeapShape, IsHeldOf}
 use Rattle.gc_values.proofs.ShapeSlots.{laid_out}

@@ -10,7 +10,7 @@ use Rattle.gc_types.specs.declared.kind.VMGcKind.{VMGcKind}
 use Rattle.gc_types.specs.declared.kind.VMGcKind.TheVariants.{ExnRef}
 use Rattle.gc_types.specs.declared.value.Tag.{Tag}
 use Rattle.gc_types.specs.declared.value.ValType.{ValType}
-use Rattle.gc_types.specs.Declarations.{Declaration, Shape, struct_of, array_of, exn_of, func_of}
+use Rattle.gc_types.specs.Declarations.{Declaration, Shape, struct_of, array_of, exn_of, func_of, shape_at}
 use Rattle.gc_types.specs.Layouts.{struct_base, exception_base, storage_width}
 use Rattle.gc_memory.specs.Lists.{In}
 use Rattle.gc_view.specs.Bytes.{SameBytes, put_bytes, u32_at}
@@ -25,7 +25,6 @@ use Rattle.gc_memory.proofs.ListLemmas.{contains_in}
 use Rattle.gc_owner.specs.Owners.{OwnerView, CanBegin}
 use Rattle.gc_owner.specs.Writes.{IsNumberPlace, WritesBytes}
 use Rattle.gc_policy.proofs.CollectedOffsets.{ref_slot}
-use Rattle.gc_model.proofs.ObjectShapes.{shape_at}
 use Rattle.gc_model.specs.Forms.{InternedIds}
 use Rattle.gc_values.specs.Words.{handle_roots, AreOwnedRising}
 use Rattle.gc_values.specs.declared.root.RawValue.{RawValue}

@@ -3,7 +3,7 @@ use Rattle.std.proofs.Common.{inl, inr, ◌≡◌, ℕ, ◌+◌, ◌^◌, ◌<�
 use Rattle.std.specs.List.{slice_get}
 use Rattle.std.proofs.lemmas.Option.{slice_get_cases}
 use Rattle.gc_types.specs.declared.kind.Layouts.{Layouts}
-use Rattle.gc_types.specs.Declarations.{Shape, TypeTable}
+use Rattle.gc_types.specs.Declarations.{Shape, TypeTable, shape_at}
 use Rattle.gc_view.specs.Heaps.{HeapObject}
 use Rattle.gc_view.specs.Slots.{StorageSlot}
 use Rattle.gc_heap.specs.Content.{IsHeap}
@@ -13,8 +13,9 @@ use Rattle.gc_values.specs.declared.slot.Slot.{Slot}
 use Rattle.gc_values.specs.declared.root.RawValue.{RawValue}
 use Rattle.gc_values.specs.Words.{AreOwnedRising}
 use Rattle.gc_values.specs.Kept.{kept_code}
-use Rattle.gc_values.specs.HeldSlots.{storage_slot, HasStorageSlot, FindsSlot, CanWriteSlot, WritesAt, CanWriteKept, WritesKept}
+use Rattle.gc_values.specs.HeldSlots.{storage_slot, HasShapeSlot, FindsShapeSlot, FindsSlot, CanWriteSlot, WritesAt, CanWriteKept, WritesKept}
 use Rattle.gc_values.specs.Filling.{EachFits, EachStands, IsToFill, CanFill, FillsNew, slot_bytes}
+use Rattle.gc_values.proofs.ShapeSlots.{has_shape_slot, finds_slot}
 use Rattle.gc_values.proofs.EachValue.{FillsTo, fills-none, slot_here, has_slot, small_index, is_kept, slot_found, can_write, fills-more, fills-all}
 
 -- The first k values are written, into whatever object they are said to fit.
@@ -68,16 +69,18 @@ module _ {D : Type 0} {layouts : Layouts} {ids : InternedIds} {raws : List RawVa
   pub same_types : new.types ≡ old.types
   same_types = ap (λ (v : OwnerView D). v.types) so_far.rewrites.rest
 
-  -- as they are lent, they have its slot
-  module _ (kind : Layouts) (types : TypeTable) (kind_is : kind ≡ layouts) (types_are : types ≡ new.types) where
-    pub next_has : HasStorageSlot kind types.declarations ty k
-    next_has =
-        subst (λ (l : Layouts). HasStorageSlot l types.declarations ty k) (sym kind_is) (subst (λ (ts : TypeTable). HasStorageSlot layouts ts.declarations ty k) (sym types_are)
-        (has_slot layouts ids raws old place ty object shape count n.begins.to_fill new k r n.value_is so_far n.heap n.can))
+  -- the shape of the type has its slot
+  module _ (kind : Layouts) (kind_is : kind ≡ layouts) (listed : Shape) (declared : shape_at old.types.declarations ty ≡ Some listed) where
+    declared_here : shape_at new.types.declarations ty ≡ Some listed
+    declared_here = ap (λ (ts : TypeTable). shape_at ts.declarations ty) same_types ∙ declared
 
-    pub next_found : (found : Slot) → FindsSlot kind types.declarations ty k found → FindsSlot layouts new.types.declarations ty k found
-    next_found found finds =
-        subst (λ (ts : TypeTable). FindsSlot layouts ts.declarations ty k found) types_are (subst (λ (l : Layouts). FindsSlot l types.declarations ty k found) kind_is finds)
+    pub next_has : HasShapeSlot kind listed k
+    next_has =
+        subst (λ (l : Layouts). HasShapeSlot l listed k) (sym kind_is)
+        (has_shape_slot layouts new.types.declarations ty k listed declared_here (has_slot layouts ids raws old place ty object shape count n.begins.to_fill new k r n.value_is so_far n.heap n.can))
+
+    pub next_found : (found : Slot) → FindsShapeSlot kind listed k found → FindsSlot layouts new.types.declarations ty k found
+    next_found found finds = finds_slot layouts new.types.declarations ty k listed declared_here found (subst (λ (l : Layouts). FindsShapeSlot l listed k found) kind_is finds)
 
   module _ (found : Slot) (finds : FindsSlot layouts new.types.declarations ty k found) where
     -- it is that of any fields that these are said to be

@@ -1,18 +1,19 @@
 -- The slots of objects that a heap holds.
-use Rattle.std.specs.Prelude.{◌≡◌, ℕ, ◌-◌, ◌<◌, ◌^◌, List, Some, slice_get}
+use Rattle.std.specs.Prelude.{◌≡◌, ℕ, ◌-◌, ◌<◌, ◌^◌, List, None, Some, slice_get}
 use Rattle.std.specs.Int.{bytes_low_first}
 use Rattle.std.specs.FinMap as finite
 use Rattle.gc_types.specs.declared.kind.Layouts.{Layouts}
 use Rattle.gc_types.specs.declared.kind.VMGcKind.TheVariants.{StructRef, ArrayRef, ExnRef}
-use Rattle.gc_types.specs.Declarations.{Declaration, Shape, struct_of, array_of, exn_of, func_of}
-use Rattle.gc_types.specs.Layouts.{struct_base, storage_width}
+use Rattle.gc_types.specs.Declarations.{Declaration, Shape, struct_of, array_of, exn_of, func_of, shape_at, shape_elem, shape_fields}
+use Rattle.gc_types.specs.declared.layout.GcStructLayout.{GcStructLayout}
+use Rattle.gc_types.specs.Layouts.{shape_layout, struct_base, storage_width}
 use Rattle.gc_view.specs.Heaps.{HeapView, HeapObject}
 use Rattle.gc_view.specs.Slots.{StorageSlot, shape_slots}
 use Rattle.gc_heap.specs.Extents.{array_length}
 use Rattle.gc_heap.specs.Heap.{put_object, with_data}
 use Rattle.gc_owner.specs.Owners.{OwnerView}
 use Rattle.gc_model.specs.Forms.{Form, InternedIds, storage_form, number_at}
-use Rattle.gc_model.proofs.ObjectShapes.{shape_at}
+use Rattle.gc_values.specs.declared.slot.FieldSlots.{FieldSlots}
 use Rattle.gc_values.specs.declared.slot.Slot.{Slot}
 use Rattle.gc_values.specs.declared.stored.Stored.{Stored}
 use Rattle.gc_values.specs.declared.stored.Found.{Found}
@@ -23,6 +24,26 @@ use Rattle.gc_values.specs.Words.{AreOwnedRising, handle_roots}
 -- a slot as the code has it
 abbrev pub storage_slot : Slot → StorageSlot
 storage_slot slot = record { storage = slot.storage; offset = slot.offset }
+
+-- There is a slot of that index in an object of the shape, if it is large enough where it is an array.
+pub record HasShapeSlot (layouts : Layouts) (shape : Shape) (index : ℕ) : Type 0 where
+  pub count : ℕ
+  pub slot : StorageSlot
+  pub slot_is : slice_get (shape_slots layouts shape count) index ≡ Some slot
+  pub small : slot.offset < 2 ^ 32
+
+-- it is that slot
+abbrev pub FindsShapeSlot : Layouts → Shape → ℕ → Slot → Type 0
+FindsShapeSlot layouts shape index found =
+    (count : ℕ) (slot : StorageSlot) → slice_get (shape_slots layouts shape count) index ≡ Some slot → storage_slot found ≡ slot
+
+-- They are the fields of a shape that is no array's, and where they lie.
+pub record AreFieldSlots (layouts : Layouts) (shape : Shape) (slots : FieldSlots) : Type 0 where
+  pub no_array : shape_elem shape ≡ None
+  pub fields_are : shape_fields shape ≡ Some slots.fields.now
+  pub layout : GcStructLayout
+  pub layout_is : shape_layout layouts shape ≡ Some layout
+  pub layouts_are : layout.fields ≡ slots.layouts.now
 
 -- There is a slot of that index in an object of the type, if it is large enough where it is an array.
 pub record HasStorageSlot (layouts : Layouts) (types : List Declaration) (ty index : ℕ) : Type 0 where

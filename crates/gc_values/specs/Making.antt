@@ -3,7 +3,7 @@ use Rattle.std.specs.Prelude.{◌≡◌, ◌⊎◌, ℕ, Bool, true, false, List
 use Rattle.gc_types.specs.declared.kind.Layouts.{Layouts}
 use Rattle.gc_types.specs.declared.layout.GcArrayLayout.{GcArrayLayout}
 use Rattle.gc_types.specs.declared.layout.GcStructLayout.{GcStructLayout}
-use Rattle.gc_types.specs.Declarations.{Declaration}
+use Rattle.gc_types.specs.Declarations.{Declaration, Shape, shape_at}
 use Rattle.gc_types.specs.Layouts.{layout_at, array_layout_at}
 use Rattle.gc_view.specs.Sizes.{IsTooLarge, too_large, need_of}
 use Rattle.gc_view.specs.Heaps.{HeapObject}
@@ -18,17 +18,20 @@ use Rattle.gc_values.specs.declared.request.Place.{Place}
 use Rattle.gc_values.specs.declared.request.Place.TheVariants as place
 use Rattle.gc_values.specs.declared.faults.PlaceFault.{PlaceFault}
 use Rattle.gc_values.specs.declared.faults.PlaceFault.TheVariants as fault
+use Rattle.gc_values.specs.Filling.{asked_type}
 
--- what an object of that request is made by
-abbrev pub described_by : Place → Description
-described_by (place.Struct ty) = of.Object ty
-described_by (place.Exn ty tag) = of.Object ty
-described_by (place.Array ty count) = of.Array ty count
+-- an object of that request, whose type is declared, is made by that description
+abbrev pub IsDescribedBy : Layouts → List Declaration → Place → Description → Type 0
+IsDescribedBy layouts types (place.Struct ty) (of.Object named layout) = (named ≡ ty) × (layout_at layouts types ty ≡ Some layout.now)
+IsDescribedBy layouts types (place.Exn ty tag) (of.Object named layout) = (named ≡ ty) × (layout_at layouts types ty ≡ Some layout.now)
+IsDescribedBy layouts types (place.Array ty count) (of.Array named length layout) =
+    (named ≡ ty) × ((length ≡ count) × (array_layout_at layouts types ty ≡ Some layout.now))
+IsDescribedBy layouts types _ _ = ⊥
 
 -- what is described is of a declared type
 abbrev pub IsOfTypes : Description → Type 0
-IsOfTypes (of.Object ty) = Unit {0}
-IsOfTypes (of.Array ty count) = Unit {0}
+IsOfTypes (of.Object ty layout) = Unit {0}
+IsOfTypes (of.Array ty count layout) = Unit {0}
 IsOfTypes (of.External id) = ⊥
 
 -- the bytes of an object of that request, whose type is declared
@@ -37,6 +40,10 @@ IsSizeOf layouts types (place.Struct ty) size = (layout : GcStructLayout) × ((l
 IsSizeOf layouts types (place.Exn ty tag) size = (layout : GcStructLayout) × ((layout_at layouts types ty ≡ Some layout) × (size ≡ layout.size))
 IsSizeOf layouts types (place.Array ty count) size = (layout : GcArrayLayout)
     × ((array_layout_at layouts types ty ≡ Some layout) × (size ≡ array_size layout count))
+
+-- and that is the type's shape
+abbrev pub IsSizeBy : Layouts → List Declaration → Place → Shape → ℕ → Type 0
+IsSizeBy layouts types request shape size = (shape_at types (asked_type request) ≡ Some shape) × IsSizeOf layouts types request size
 
 -- the size is told where some heap of the kind can hold an object that large
 abbrev pub TellsSize : Layouts → ℕ → Option ℕ → Type 0

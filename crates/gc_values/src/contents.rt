@@ -2,16 +2,18 @@
 
 use crate::fill::{fill_each, write_bytes, write_same};
 use crate::interned::{InternedValues, given_values};
-use crate::request::{Contents, Place};
+use crate::request::{Contents, NewType, Place};
 use crate::root::RawValue;
 use crate::sources::ValueSource;
 use gc_heap::GcHeap;
 use gc_owner::HeapOwner;
 use gc_refs::VMGcRef;
+use gc_types::TypeShape;
 
 /// What a new object is given: `Contents`, or what stands elsewhere and is written from there.
 pub trait ContentSource {
-    ghost use Rattle.std.specs.Prelude.{◌≡◌, true};
+    ghost use Rattle.std.specs.Prelude.{◌≡◌, Some, true};
+    ghost use Rattle.gc_types.specs.Declarations.{shape_at};
     ghost use Rattle.gc_values.specs.declared.request.Contents.{Contents};
     ghost use Rattle.gc_values.specs.Interning.{ids_of, request_values};
     ghost use Rattle.gc_values.specs.Filling.{CanFill, FillsAs, IsOfAskedKind, front_of, ContentsFit, ContentsStand, asked_type};
@@ -25,15 +27,17 @@ pub trait ContentSource {
     fn side_values(&self, request: &Place) -> &[RawValue]
         ensures { raw_side_values result.now ≡ raw_side_values (request_values request.now (contents self.now)) };
 
-    /// Gives a new object of that request its values, and an exception its tag.
+    /// Gives a new object of that request, whose type lists `shape`, its values, and an exception its tag.
     fn fill<H: GcHeap, D: Drop>(
         &self,
         owner: &mut HeapOwner<H, D>,
         interned: &InternedValues,
         gc_ref: &VMGcRef,
         request: &Place,
+        shape: &TypeShape,
     )
         requires idle { owner.old.seen.idle ≡ true }
+        requires declared { shape_at owner.old.seen.types.declarations (asked_type request.now) ≡ Some shape.now }
         requires can { CanFill H.KIND owner.old.seen gc_ref.now (asked_type request.now)
             (ContentsFit (ids_of interned.now) request.now (contents self.now)) }
         requires kind { IsOfAskedKind request.now owner.old.seen.heap gc_ref.now }
@@ -45,31 +49,38 @@ impl ContentSource for Contents<'_> {
     ghost contents = { λ contents. contents };
 
     #[inline(always)]
-    fn side_values(&self, request: &Place) -> &[RawValue] {
-        given_values(request, *self)
-    }
-
-    #[inline(always)]
     fn fill<H: GcHeap, D: Drop>(
         &self,
         owner: &mut HeapOwner<H, D>,
         interned: &InternedValues,
         gc_ref: &VMGcRef,
         request: &Place,
+        shape: &TypeShape,
     ) {
         match *self {
-            Contents::Each(values) => fill_each(owner, interned, gc_ref, request, &values),
+            Contents::Each(values) => fill_each(owner, interned, gc_ref, request, shape, &values),
             Contents::Same(value) => match *request {
-                Place::Array(ty, count) => write_same(owner, interned, gc_ref, ty, count, *value),
+                Place::Array(index, count) => {
+                    let ty = NewType { index, shape };
+                    write_same(owner, interned, gc_ref, &ty, count, *value);
+                }
                 Place::Struct(_) => unreachable!(),
                 Place::Exn(..) => unreachable!(),
             },
             Contents::Bytes(bytes) => match *request {
-                Place::Array(ty, _) => write_bytes(owner, gc_ref, ty, bytes),
+                Place::Array(index, _) => {
+                    let ty = NewType { index, shape };
+                    write_bytes(owner, gc_ref, &ty, bytes);
+                }
                 Place::Struct(_) => unreachable!(),
                 Place::Exn(..) => unreachable!(),
             },
         }
+    }
+
+    #[inline(always)]
+    fn side_values(&self, request: &Place) -> &[RawValue] {
+        given_values(request, *self)
     }
 }
 
@@ -85,18 +96,19 @@ impl<V: ValueSource> ContentSource for EachFrom<'_, V> {
     ghost contents = { λ each. each_of (V.given each.values.now) };
 
     #[inline(always)]
-    fn side_values(&self, _request: &Place) -> &[RawValue] {
-        self.values.side_values()
-    }
-
-    #[inline(always)]
     fn fill<H: GcHeap, D: Drop>(
         &self,
         owner: &mut HeapOwner<H, D>,
         interned: &InternedValues,
         gc_ref: &VMGcRef,
         request: &Place,
+        shape: &TypeShape,
     ) {
-        fill_each(owner, interned, gc_ref, request, self.values);
+        fill_each(owner, interned, gc_ref, request, shape, self.values);
+    }
+
+    #[inline(always)]
+    fn side_values(&self, _request: &Place) -> &[RawValue] {
+        self.values.side_values()
     }
 }

@@ -1,7 +1,7 @@
 //! The values of a new object, which are all 0 before.
 
 ghost use Rattle.std.specs.Prelude.{◌≡◌, ◌<◌, ◌%◌, ℕ, true, Some, None, length, slice_index_or};
-ghost use Rattle.gc_types.specs.Declarations.{elem_at};
+ghost use Rattle.gc_types.specs.Declarations.{shape_at, shape_elem};
 ghost use Rattle.gc_values.specs.declared.stored.Stored.TheVariants as kept;
 ghost use Rattle.gc_values.specs.HeldSlots.{storage_slot};
 ghost use Rattle.gc_values.specs.Interning.{ids_of};
@@ -9,16 +9,16 @@ ghost use Rattle.gc_values.specs.Filling.{CanFill, FillsNew, FillsAs, IsOfAskedK
 ghost use Rattle.gc_values.specs.Filling.{asked_type, AreElements, FillsAll, IsWidth};
 
 use crate::interned::InternedValues;
-use crate::request::Place;
+use crate::request::{NewType, Place};
 use crate::root::RawValue;
-use crate::slot::{Slot, element_slot, field_slot, slot_at};
+use crate::slot::{Slot, element_slot, field_slots, slot_at};
 use crate::sources::ValueSource;
 use crate::stored::{Stored, stored_value, write_slot};
 use crate::tag::write_tag;
 use gc_heap::GcHeap;
 use gc_owner::HeapOwner;
 use gc_refs::VMGcRef;
-use gc_types::{FieldType, VMSharedTypeIndex};
+use gc_types::{FieldType, TypeShape};
 
 /// How many bytes the greatest number has: a multiple of each width.
 const BLOCK: usize = 16;
@@ -32,19 +32,20 @@ fn write_each_element<H: GcHeap, D: Drop, V: ValueSource>(
     owner: &mut HeapOwner<H, D>,
     interned: &InternedValues,
     gc_ref: &VMGcRef,
-    ty: VMSharedTypeIndex,
+    ty: &NewType<'_>,
     element: &FieldType,
     values: &V,
 )
     requires idle { owner.old.seen.idle ≡ true }
-    requires element { elem_at owner.old.seen.types.declarations ty ≡ Some element.now }
-    requires can { CanFill H.KIND owner.old.seen gc_ref.now ty (EachFits (ids_of interned.now) (V.given values.now)) }
-    ensures { FillsNew H.KIND owner.old.seen owner.new.seen gc_ref.now ty
+    requires declared { shape_at owner.old.seen.types.declarations ty.now.index ≡ Some ty.now.shape.now }
+    requires element { shape_elem ty.now.shape.now ≡ Some element.now }
+    requires can { CanFill H.KIND owner.old.seen gc_ref.now ty.now.index (EachFits (ids_of interned.now) (V.given values.now)) }
+    ensures { FillsNew H.KIND owner.old.seen owner.new.seen gc_ref.now ty.now.index
         (EachFits (ids_of interned.now) (V.given values.now)) (EachStands (ids_of interned.now) (V.given values.now)) }
 {
     for index in 0..values.count() {
         owner.is_ready();
-        let slot = element_slot(owner.types(), H::KIND, ty, index as u32, *element);
+        let slot = element_slot(ty.shape, H::KIND, index as u32, *element);
         values.write_at(owner, interned, gc_ref, &slot, index);
     }
 }
@@ -55,18 +56,20 @@ fn write_each_field<H: GcHeap, D: Drop, V: ValueSource>(
     owner: &mut HeapOwner<H, D>,
     interned: &InternedValues,
     gc_ref: &VMGcRef,
-    ty: VMSharedTypeIndex,
+    ty: &NewType<'_>,
     values: &V,
 )
     requires idle { owner.old.seen.idle ≡ true }
-    requires no_array { elem_at owner.old.seen.types.declarations ty ≡ None }
-    requires can { CanFill H.KIND owner.old.seen gc_ref.now ty (EachFits (ids_of interned.now) (V.given values.now)) }
-    ensures { FillsNew H.KIND owner.old.seen owner.new.seen gc_ref.now ty
+    requires declared { shape_at owner.old.seen.types.declarations ty.now.index ≡ Some ty.now.shape.now }
+    requires no_array { shape_elem ty.now.shape.now ≡ None }
+    requires can { CanFill H.KIND owner.old.seen gc_ref.now ty.now.index (EachFits (ids_of interned.now) (V.given values.now)) }
+    ensures { FillsNew H.KIND owner.old.seen owner.new.seen gc_ref.now ty.now.index
         (EachFits (ids_of interned.now) (V.given values.now)) (EachStands (ids_of interned.now) (V.given values.now)) }
 {
+    let slots = field_slots(ty.shape, H::KIND);
     for index in 0..values.count() {
         owner.is_ready();
-        let slot = field_slot(owner.types(), H::KIND, ty, index as u32);
+        let slot = slots.at(index as u32);
         values.write_at(owner, interned, gc_ref, &slot, index);
     }
 }
@@ -178,20 +181,21 @@ pub(crate) fn write_same<H: GcHeap, D: Drop>(
     owner: &mut HeapOwner<H, D>,
     interned: &InternedValues,
     gc_ref: &VMGcRef,
-    ty: VMSharedTypeIndex,
+    ty: &NewType<'_>,
     count: u32,
     value: RawValue,
 )
     requires idle { owner.old.seen.idle ≡ true }
-    requires can { CanFill H.KIND owner.old.seen gc_ref.now ty (SameFits (ids_of interned.now) value count) }
-    ensures { FillsNew H.KIND owner.old.seen owner.new.seen gc_ref.now ty
+    requires declared { shape_at owner.old.seen.types.declarations ty.now.index ≡ Some ty.now.shape.now }
+    requires can { CanFill H.KIND owner.old.seen gc_ref.now ty.now.index (SameFits (ids_of interned.now) value count) }
+    ensures { FillsNew H.KIND owner.old.seen owner.new.seen gc_ref.now ty.now.index
         (SameFits (ids_of interned.now) value count) (SameStands (ids_of interned.now) value) }
 {
     if count == 0 {
         return;
     }
     owner.is_ready();
-    let first = slot_at(owner.types(), H::KIND, ty, 0);
+    let first = slot_at(ty.shape, H::KIND, 0);
     let stored = stored_value(interned, owner.scoped(), owner.owned(), &value);
     write_elements(owner, gc_ref, &first, count, stored);
 }
@@ -200,18 +204,19 @@ pub(crate) fn write_same<H: GcHeap, D: Drop>(
 pub(crate) fn write_bytes<H: GcHeap, D: Drop>(
     owner: &mut HeapOwner<H, D>,
     gc_ref: &VMGcRef,
-    ty: VMSharedTypeIndex,
+    ty: &NewType<'_>,
     bytes: &[u8],
 )
     requires idle { owner.old.seen.idle ≡ true }
-    requires can { CanFill H.KIND owner.old.seen gc_ref.now ty (BytesFit bytes.now) }
-    ensures { FillsNew H.KIND owner.old.seen owner.new.seen gc_ref.now ty (BytesFit bytes.now) (BytesStand bytes.now) }
+    requires declared { shape_at owner.old.seen.types.declarations ty.now.index ≡ Some ty.now.shape.now }
+    requires can { CanFill H.KIND owner.old.seen gc_ref.now ty.now.index (BytesFit bytes.now) }
+    ensures { FillsNew H.KIND owner.old.seen owner.new.seen gc_ref.now ty.now.index (BytesFit bytes.now) (BytesStand bytes.now) }
 {
     if bytes.is_empty() {
         return;
     }
     owner.is_ready();
-    let first = slot_at(owner.types(), H::KIND, ty, 0);
+    let first = slot_at(ty.shape, H::KIND, 0);
     owner.write_number(gc_ref, first.offset, bytes);
 }
 
@@ -222,23 +227,30 @@ pub(crate) fn fill_each<H: GcHeap, D: Drop, V: ValueSource>(
     interned: &InternedValues,
     gc_ref: &VMGcRef,
     request: &Place,
+    shape: &TypeShape,
     values: &V,
 )
     requires idle { owner.old.seen.idle ≡ true }
+    requires declared { shape_at owner.old.seen.types.declarations (asked_type request.now) ≡ Some shape.now }
     requires can { CanFill H.KIND owner.old.seen gc_ref.now (asked_type request.now) (EachFits (ids_of interned.now) (V.given values.now)) }
     requires kind { IsOfAskedKind request.now owner.old.seen.heap gc_ref.now }
     ensures { FillsAs H.KIND (front_of H.KIND request.now) owner.old.seen owner.new.seen gc_ref.now (asked_type request.now)
         (EachFits (ids_of interned.now) (V.given values.now)) (EachStands (ids_of interned.now) (V.given values.now)) }
 {
     match *request {
-        Place::Struct(ty) => write_each_field(owner, interned, gc_ref, ty, values),
-        Place::Array(ty, _) => {
-            let element = owner.types().array_elem(ty).unwrap();
-            write_each_element(owner, interned, gc_ref, ty, &element, values);
+        Place::Struct(index) => {
+            let ty = NewType { index, shape };
+            write_each_field(owner, interned, gc_ref, &ty, values);
         }
-        Place::Exn(ty, tag) => {
+        Place::Array(index, _) => {
+            let ty = NewType { index, shape };
+            let element = shape.elem_type().unwrap();
+            write_each_element(owner, interned, gc_ref, &ty, element, values);
+        }
+        Place::Exn(index, tag) => {
             write_tag(owner, gc_ref, tag);
-            write_each_field(owner, interned, gc_ref, ty, values);
+            let ty = NewType { index, shape };
+            write_each_field(owner, interned, gc_ref, &ty, values);
         }
     }
 }

@@ -1,41 +1,46 @@
 //! New objects, with the heap's first pages where it isn't made.
 
-ghost use Rattle.std.specs.Prelude.{◌≡◌, ◌<◌, ◌≤◌, ◌^◌, ℕ, true, length};
+ghost use Rattle.std.specs.Prelude.{◌≡◌, ◌<◌, ◌≤◌, ◌^◌, ℕ, List, true, length};
+ghost use Rattle.gc_types.specs.Declarations.{Declaration};
 ghost use Rattle.gc_view.specs.Heaps.{HeapObject};
 ghost use Rattle.gc_view.specs.Pages.{max_pages};
 ghost use Rattle.gc_owner.specs.Growing.{state_of};
 ghost use Rattle.gc_owner.specs.Makes.{CanMakeDescribed, Describes};
 ghost use Rattle.gc_policy.specs.Shown.{DuesOwner};
 ghost use Rattle.gc_model.specs.Allocation.{Limits};
-ghost use Rattle.gc_values.specs.Making.{AllocatesObject, IsOfTypes, IsSizeOf, MakesRooted, TellsSize, described_by};
+ghost use Rattle.gc_values.specs.Making.{AllocatesObject, IsDescribedBy, IsOfTypes, IsSizeBy, MakesRooted, TellsSize};
 
 use crate::faults::{GcHeapOutOfMemory, PlaceFault};
 use crate::request::Place;
 use gc_heap::GcHeap;
 use gc_owner::{AllocateFault, Description, HeapOwner, PagesFault, ResourceLimiter};
-use gc_types::Types;
+use gc_types::TypeShape;
 
-/// What an object of that request is made by.
-pub fn description_of(request: &Place) -> Description
-    ensures { result ≡ described_by request.now }
+/// What an object of that request is made by, whose type lists `shape`.
+#[inline(always)]
+pub fn description_of<'a, H: GcHeap>(request: &Place, shape: &'a TypeShape) -> Description<'a>
+    requires { (types : List Declaration) × ((size : ℕ) × IsSizeBy H.KIND types request.now shape.now size) }
+    ensures { (types : List Declaration) (size : ℕ) → IsSizeBy H.KIND types request.now shape.now size → IsDescribedBy H.KIND types request.now result }
 {
     match *request {
-        Place::Struct(ty) => Description::Object(ty),
-        Place::Exn(ty, _) => Description::Object(ty),
-        Place::Array(ty, length) => Description::Array(ty, length),
+        Place::Struct(ty) => Description::Object(ty, shape.struct_layout(H::KIND).unwrap()),
+        Place::Exn(ty, _) => Description::Object(ty, shape.struct_layout(H::KIND).unwrap()),
+        Place::Array(ty, length) => {
+            Description::Array(ty, length, shape.array_layout(H::KIND).unwrap())
+        }
     }
 }
 
-/// The bytes of an object of a declared type; None exactly where no heap of the kind can hold it.
+/// The bytes of an object of that request, whose type lists `shape`; None exactly where no heap of the kind can hold it.
 #[inline(always)]
-pub fn object_size<H: GcHeap>(types: &Types, request: &Place) -> Option<u32>
-    requires { (size : ℕ) × IsSizeOf H.KIND types.now.declarations request.now size }
-    ensures { (size : ℕ) → IsSizeOf H.KIND types.now.declarations request.now size → TellsSize H.KIND size result }
+pub fn object_size<H: GcHeap>(request: &Place, shape: &TypeShape) -> Option<u32>
+    requires { (types : List Declaration) × ((size : ℕ) × IsSizeBy H.KIND types request.now shape.now size) }
+    ensures { (types : List Declaration) (size : ℕ) → IsSizeBy H.KIND types request.now shape.now size → TellsSize H.KIND size result }
 {
     let size = match *request {
-        Place::Struct(ty) => types.struct_layout(H::KIND, ty).unwrap().size,
-        Place::Exn(ty, _) => types.struct_layout(H::KIND, ty).unwrap().size,
-        Place::Array(ty, length) => types.array_layout(H::KIND, ty).unwrap().size(length)?,
+        Place::Struct(_) => shape.struct_layout(H::KIND).unwrap().size,
+        Place::Exn(..) => shape.struct_layout(H::KIND).unwrap().size,
+        Place::Array(_, length) => shape.array_layout(H::KIND).unwrap().size(length)?,
     };
     if H::is_too_large(size) {
         return None;
@@ -65,13 +70,13 @@ pub fn collect_if_due<H: GcHeap, D: Drop>(owner: &mut HeapOwner<H, D>, is_due: b
 fn allocate_object<H: GcHeap, D: Drop, L: ResourceLimiter>(
     owner: &mut HeapOwner<H, D>,
     limiter: &mut L,
-    description: &Description,
+    description: &Description<'_>,
 ) -> Result<u32, PlaceFault>
     requires can { CanMakeDescribed H.KIND owner.old.seen description.now }
     ensures { (o : HeapObject) (size : ℕ) → Describes H.KIND owner.old.seen description.now o size
         → AllocatesObject H.KIND o size (state_of owner.old.seen (L.limits limiter.old)) (state_of owner.new.seen (L.limits limiter.new)) result }
 {
-    match owner.allocate(limiter, *description) {
+    match owner.allocate(limiter, description) {
         Ok(index) => Ok(index),
         Err(AllocateFault::TooLarge) => Err(PlaceFault::TooLarge),
         Err(AllocateFault::HeapOutOfMemory(bytes_needed)) => Err(out_of_memory(bytes_needed)),
@@ -86,7 +91,7 @@ pub fn make_object<H: GcHeap, D: Drop, L: ResourceLimiter>(
     limiter: &mut L,
     first_pages: u32,
     is_due: bool,
-    description: &Description,
+    description: &Description<'_>,
     size: u32,
 ) -> Result<u32, PlaceFault>
     requires idle { owner.old.seen.idle ≡ true }

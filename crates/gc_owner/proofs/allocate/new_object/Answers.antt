@@ -1,17 +1,19 @@
-use Rattle.std.proofs.Common.{◌≡◌, Some, sym, ap, ◌∙◌}
-use Rattle.std.specs.Option.{option_copied}
+use Rattle.std.proofs.Common.{◌≡◌, Some, subst}
 use Rattle.gc_types.specs.Layouts.{layout_at}
 use Rattle.gc_heap.proofs.TakenLayouts.{taken_layout}
+use Rattle.gc_owner.specs.declared.allocate.Description.{Description}
+use Rattle.gc_owner.specs.Tries.{DescribesDeclared}
 use Rattle.gc_owner.proofs.allocate.new_object.Goals as goal
-use Rattle.gc_owner.proofs.allocate.new_object.Goals.{After-unwrap-layout}
+use Rattle.gc_owner.proofs.allocate.new_object.Goals.{In-Object}
 
-declared : (g : _) (c : After-unwrap-layout g) → layout_at g.H.GcHeap.KIND c.args.types.now.declarations c.in-Object.ty ≡ Some c.unwrap-layout.result.now
-declared g c = ap (λ l. layout_at l c.args.types.now.declarations c.in-Object.ty) (sym c.KIND.ensures) ∙ sym c.struct_layout.ensures.value ∙ ap option_copied c.unwrap-layout.ensures
+-- the layout is that of the type
+declared : (g : _) (c : In-Object g) → layout_at g.H.GcHeap.KIND c.requires.told.0 c.in-Object.ty ≡ Some c.in-Object.layout.now
+declared g c = (subst (λ (d : Description). DescribesDeclared g.H.GcHeap.KIND c.requires.told.0 d c.requires.told.1.0 c.requires.told.1.1.0) c.in-Object.is c.requires.told.1.1.1).0
 
 pub alloc_uninit_struct_or_exn-requires-clause-size : goal.alloc_uninit_struct_or_exn-requires-clause-size
 alloc_uninit_struct_or_exn-requires-clause-size g c =
-    (taken_layout g.H.GcHeap.KIND c.args.types.now.declarations c.in-Object.ty c.unwrap-layout.result.now (declared g (goal.at.alloc_uninit_struct_or_exn-requires-clause-size g c).After-unwrap-layout)).least
+    (taken_layout g.H.GcHeap.KIND c.requires.told.0 c.in-Object.ty c.in-Object.layout.now (declared g (goal.at.alloc_uninit_struct_or_exn-requires-clause-size g c).In-Object)).least
 
 pub alloc_uninit_struct_or_exn-requires-clause-traces : goal.alloc_uninit_struct_or_exn-requires-clause-traces
 alloc_uninit_struct_or_exn-requires-clause-traces g c =
-    (taken_layout g.H.GcHeap.KIND c.args.types.now.declarations c.in-Object.ty c.unwrap-layout.result.now (declared g (goal.at.alloc_uninit_struct_or_exn-requires-clause-traces g c).After-unwrap-layout)).traces
+    (taken_layout g.H.GcHeap.KIND c.requires.told.0 c.in-Object.ty c.in-Object.layout.now (declared g (goal.at.alloc_uninit_struct_or_exn-requires-clause-traces g c).In-Object)).traces

@@ -1,6 +1,6 @@
 use Rattle.std.proofs.Common.{◌≡◌, ℕ, List, Some, sym, ap, ◌∙◌, subst}
 use Rattle.std.specs.FinMap.{get}
-use Rattle.gc_types.specs.Declarations.{Shape, elem_at}
+use Rattle.gc_types.specs.Declarations.{Shape, shape_at}
 use Rattle.gc_types.specs.declared.kind.VMGcKind.TheVariants.{ExnRef}
 use Rattle.gc_view.specs.Heaps.{HeapObject}
 use Rattle.gc_owner.specs.Owners.{OwnerView}
@@ -26,7 +26,7 @@ returns-in-Array g c =
 
 -- an exception that is requested with these values
 asked : (g : given.Over) (c : After-write_tag g) (object : HeapObject) (shape : Shape) (count : ℕ) → IsToFill g.H.GcHeap.KIND c.args.owner.now.seen c.args.gc_ref.now (asked_type c.args.request.now) (EachFits (ids_of c.args.interned.now) (g.V.ValueSource.given c.args.values.now)) object shape count
-    → IsToFill g.H.GcHeap.KIND c.args.owner.now.seen c.args.gc_ref.now c.in-Exn.ty (EachFits (ids_of c.args.interned.now) (g.V.ValueSource.given c.args.values.now)) object shape count
+    → IsToFill g.H.GcHeap.KIND c.args.owner.now.seen c.args.gc_ref.now c.in-Exn.index (EachFits (ids_of c.args.interned.now) (g.V.ValueSource.given c.args.values.now)) object shape count
 asked g c object shape count f =
     subst (λ (request : Place). IsToFill g.H.GcHeap.KIND c.args.owner.now.seen c.args.gc_ref.now (asked_type request) (EachFits (ids_of c.args.interned.now) (g.V.ValueSource.given c.args.values.now)) object shape count) c.in-Exn.is f
 
@@ -38,7 +38,7 @@ tagged : (g : given.Over) (c : After-write_tag g) (object : HeapObject) (shape :
     → (bytes : List ℕ) × RewritesTo (IsTagged c.in-Exn.tag) c.args.owner.now.seen c.write_tag.new.owner.seen c.args.gc_ref.now object bytes
 tagged g c object shape count f =
     c.write_tag.ensures
-    (to_tag g.H.GcHeap.KIND c.args.owner.now.seen c.args.gc_ref.now c.in-Exn.ty (ids_of c.args.interned.now) (g.V.ValueSource.given c.args.values.now) object shape count (asked g c object shape count f) (is_exception g c object f.is.held))
+    (to_tag g.H.GcHeap.KIND c.args.owner.now.seen c.args.gc_ref.now c.in-Exn.index (ids_of c.args.interned.now) (g.V.ValueSource.given c.args.values.now) object shape count (asked g c object shape count f) (is_exception g c object f.is.held))
 
 pub write_each_field-requires-in-Exn-clause-idle : goal.write_each_field-requires-in-Exn-clause-idle
 write_each_field-requires-in-Exn-clause-idle g c =
@@ -46,13 +46,17 @@ write_each_field-requires-in-Exn-clause-idle g c =
     let can = c.requires.can in
     ap (λ (v : OwnerView g.row.D.Denot). v.idle) (tagged g at can.object can.shape can.count can.to_fill).1.rest ∙ c.requires.idle
 
+pub write_each_field-requires-in-Exn-clause-declared : goal.write_each_field-requires-in-Exn-clause-declared
+write_each_field-requires-in-Exn-clause-declared g c =
+    let at = (goal.at.write_each_field-requires-in-Exn-clause-declared g c).After-write_tag in
+    let can = c.requires.can in
+    ap (λ (v : OwnerView g.row.D.Denot). shape_at v.types.declarations c.in-Exn.index) (tagged g at can.object can.shape can.count can.to_fill).1.rest
+    ∙ sym (ap (λ (request : Place). shape_at c.args.owner.now.seen.types.declarations (asked_type request)) c.in-Exn.is)
+    ∙ c.requires.declared
+
 pub write_each_field-requires-in-Exn-clause-no_array : goal.write_each_field-requires-in-Exn-clause-no_array
 write_each_field-requires-in-Exn-clause-no_array g c =
-    let at = (goal.at.write_each_field-requires-in-Exn-clause-no_array g c).After-write_tag in
-    let can = c.requires.can in
-    ap (λ (v : OwnerView g.row.D.Denot). elem_at v.types.declarations c.in-Exn.ty) (tagged g at can.object can.shape can.count can.to_fill).1.rest
-    ∙ sym (ap (λ (request : Place). elem_at c.args.owner.now.seen.types.declarations (asked_type request)) c.in-Exn.is)
-    ∙ exn_has_none can c.in-Exn.ty c.in-Exn.tag (subst (λ (request : Place). IsOfAskedKind request c.args.owner.now.seen.heap c.args.gc_ref.now) c.in-Exn.is c.requires.kind)
+    exn_has_none c.requires.can c.args.shape.now c.requires.declared c.in-Exn.index c.in-Exn.tag (subst (λ (request : Place). IsOfAskedKind request c.args.owner.now.seen.heap c.args.gc_ref.now) c.in-Exn.is c.requires.kind)
 
 pub write_each_field-requires-in-Exn-clause-can : goal.write_each_field-requires-in-Exn-clause-can
 write_each_field-requires-in-Exn-clause-can g c =
@@ -63,7 +67,7 @@ write_each_field-requires-in-Exn-clause-can g c =
       object = record can.object { bytes = did.0 };
       shape = can.shape;
       count = can.count;
-      to_fill = to_fill_tagged g.H.GcHeap.KIND c.args.owner.now.seen c.args.gc_ref.now c.in-Exn.ty (ids_of c.args.interned.now) (g.V.ValueSource.given c.args.values.now) can.object can.shape can.count (asked g at can.object can.shape can.count can.to_fill)
+      to_fill = to_fill_tagged g.H.GcHeap.KIND c.args.owner.now.seen c.args.gc_ref.now c.in-Exn.index (ids_of c.args.interned.now) (g.V.ValueSource.given c.args.values.now) can.object can.shape can.count (asked g at can.object can.shape can.count can.to_fill)
           (is_exception g at can.object can.to_fill.is.held) c.in-Exn.tag c.write_tag.new.owner.seen did.0 did.1;
     }
 
@@ -74,6 +78,6 @@ returns-in-Exn g c = λ object shape count f.
     let kind = is_exception g at object f.is.held in
     let did = tagged g at object shape count f in
     subst (λ (request : Place). FillsBy g.H.GcHeap.KIND (front_of g.H.GcHeap.KIND request shape) (EachStands (ids_of c.args.interned.now) (g.V.ValueSource.given c.args.values.now)) c.args.owner.now.seen c.write_each_field-in-Exn.new.owner.seen c.args.gc_ref.now object shape count) (sym c.in-Exn.is)
-    (filled_tagged g.H.GcHeap.KIND c.args.owner.now.seen c.args.gc_ref.now c.in-Exn.ty (ids_of c.args.interned.now) (g.V.ValueSource.given c.args.values.now) object shape count to_fill kind c.in-Exn.tag c.write_tag.new.owner.seen did.0 did.1 c.write_each_field-in-Exn.new.owner.seen
+    (filled_tagged g.H.GcHeap.KIND c.args.owner.now.seen c.args.gc_ref.now c.in-Exn.index (ids_of c.args.interned.now) (g.V.ValueSource.given c.args.values.now) object shape count to_fill kind c.in-Exn.tag c.write_tag.new.owner.seen did.0 did.1 c.write_each_field-in-Exn.new.owner.seen
     (c.write_each_field-in-Exn.ensures (record object { bytes = did.0 }) shape count
-    (to_fill_tagged g.H.GcHeap.KIND c.args.owner.now.seen c.args.gc_ref.now c.in-Exn.ty (ids_of c.args.interned.now) (g.V.ValueSource.given c.args.values.now) object shape count to_fill kind c.in-Exn.tag c.write_tag.new.owner.seen did.0 did.1)))
+    (to_fill_tagged g.H.GcHeap.KIND c.args.owner.now.seen c.args.gc_ref.now c.in-Exn.index (ids_of c.args.interned.now) (g.V.ValueSource.given c.args.values.now) object shape count to_fill kind c.in-Exn.tag c.write_tag.new.owner.seen did.0 did.1)))

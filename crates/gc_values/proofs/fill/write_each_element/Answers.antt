@@ -1,22 +1,21 @@
-use Rattle.std.proofs.Common.{◌≡◌, Some, ap, ◌∙◌, arith}
+use Rattle.std.proofs.Common.{◌≡◌, Some, arith}
 use Rattle.std.specs.List.{slice_get}
-use Rattle.gc_types.specs.Declarations.{TypeTable, elem_at}
 use Rattle.gc_values.specs.Interning.{ids_of}
 use Rattle.gc_values.specs.HeldSlots.{FindsSlot}
 use Rattle.gc_values.specs.declared.root.RawValue.{RawValue}
-use Rattle.gc_values.proofs.ValueSteps.{IsNext, value_within, begun, ended, next_small, same_types, next_has, next_found, next_goes, next_written}
+use Rattle.gc_values.proofs.ValueSteps.{IsNext, value_within, begun, ended, next_small, next_has, next_found, next_goes, next_written}
 use Rattle.gc_values.proofs.fill.write_each_element.Given.{Over}
 use Rattle.gc_values.proofs.fill.write_each_element.Goals.{After-is_ready, After-element_slot-slot}
 use Rattle.gc_values.proofs.fill.write_each_element.Goals as goal
 
 pub loop-index-init : goal.loop-index-init
-loop-index-init g c = begun g.H.GcHeap.KIND (ids_of c.args.interned.now) (g.V.ValueSource.given c.args.values.now) c.args.owner.now.seen c.args.gc_ref.now c.args.ty c.requires.idle
+loop-index-init g c = begun g.H.GcHeap.KIND (ids_of c.args.interned.now) (g.V.ValueSource.given c.args.values.now) c.args.owner.now.seen c.args.gc_ref.now c.args.ty.now.index c.requires.idle
 
 -- the value of the index
 value : (g : Over) (c : After-is_ready g) → (r : RawValue) × (slice_get (g.V.ValueSource.given c.args.values.now) c.loop-index.index ≡ Some r)
 value g c = value_within (g.V.ValueSource.given c.args.values.now) c.loop-index.index (omega (arith, c.loop-index-test.true, c.loop-index.auto.index-end, c.count-index-end.ensures))
 
-next : (g : Over) (c : After-is_ready g) → IsNext g.H.GcHeap.KIND (ids_of c.args.interned.now) (g.V.ValueSource.given c.args.values.now) c.args.owner.now.seen c.loop-index.owner.seen c.args.gc_ref.now c.args.ty c.loop-index.index (value g c).0
+next : (g : Over) (c : After-is_ready g) → IsNext g.H.GcHeap.KIND (ids_of c.args.interned.now) (g.V.ValueSource.given c.args.values.now) c.args.owner.now.seen c.loop-index.owner.seen c.args.gc_ref.now c.args.ty.now.index c.loop-index.index (value g c).0
 next g c = record {
   begins = c.requires.can;
   before = c.loop-index.invariant;
@@ -29,15 +28,11 @@ pub overflow_cast-index : goal.overflow_cast-index
 overflow_cast-index g c = let small = next_small (next g (goal.at.overflow_cast-index g c).After-is_ready) in omega (arith, small)
 
 pub element_slot-slot-requires-clause-has : goal.element_slot-slot-requires-clause-has
-element_slot-slot-requires-clause-has g c = next_has (next g (goal.at.element_slot-slot-requires-clause-has g c).After-is_ready) c.KIND.result c.types.result.now c.KIND.ensures c.types.ensures
-
-pub element_slot-slot-requires-clause-element : goal.element_slot-slot-requires-clause-element
-element_slot-slot-requires-clause-element g c =
-    ap (λ (ts : TypeTable). elem_at ts.declarations c.args.ty) (c.types.ensures ∙ same_types (next g (goal.at.element_slot-slot-requires-clause-element g c).After-is_ready)) ∙ c.requires.element
+element_slot-slot-requires-clause-has g c = next_has (next g (goal.at.element_slot-slot-requires-clause-has g c).After-is_ready) c.KIND.result c.KIND.ensures c.args.ty.now.shape.now c.requires.declared
 
 -- the slot of the index
-finds : (g : Over) (c : After-element_slot-slot g) → FindsSlot g.H.GcHeap.KIND c.loop-index.owner.seen.types.declarations c.args.ty c.loop-index.index c.element_slot-slot.result
-finds g c = next_found (next g (goal.at.After-element_slot-slot g c).After-is_ready) c.KIND.result c.types.result.now c.KIND.ensures c.types.ensures c.element_slot-slot.result c.element_slot-slot.ensures
+finds : (g : Over) (c : After-element_slot-slot g) → FindsSlot g.H.GcHeap.KIND c.loop-index.owner.seen.types.declarations c.args.ty.now.index c.loop-index.index c.element_slot-slot.result
+finds g c = next_found (next g (goal.at.After-element_slot-slot g c).After-is_ready) c.KIND.result c.KIND.ensures c.args.ty.now.shape.now c.requires.declared c.element_slot-slot.result c.element_slot-slot.ensures
 
 pub write_at-requires-clause-can : goal.write_at-requires-clause-can
 write_at-requires-clause-can g c =

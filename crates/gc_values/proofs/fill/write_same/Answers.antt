@@ -1,12 +1,13 @@
 use Rattle.std.proofs.Common.{◌≡◌, ℕ, ◌<◌, sym, subst, arith}
 use Rattle.gc_types.specs.declared.kind.Layouts.{Layouts}
-use Rattle.gc_types.specs.Declarations.{Shape, TypeTable}
+use Rattle.gc_types.specs.Declarations.{Shape}
 use Rattle.gc_values.specs.Words.{HandleRoots, handle_roots, AreOwnedRising}
 use Rattle.gc_view.specs.Heaps.{HeapObject}
 use Rattle.gc_view.specs.Slots.{StorageSlot}
 use Rattle.gc_values.specs.Kept.{KeptAs, CanBeKept}
-use Rattle.gc_values.specs.HeldSlots.{storage_slot, HasStorageSlot, FindsSlot}
+use Rattle.gc_values.specs.HeldSlots.{storage_slot, HasShapeSlot, FindsShapeSlot, HasStorageSlot}
 use Rattle.gc_values.specs.Filling.{SameFits, IsToFill, AreElements, FillsAll}
+use Rattle.gc_values.proofs.ShapeSlots.{has_shape_slot, finds_slot}
 use Rattle.gc_values.proofs.Filled.{first, none_filled, has_first, first_found, are_elements, same_filled}
 use Rattle.gc_values.proofs.fill.write_same.Given.{Over}
 use Rattle.gc_values.proofs.fill.write_same.Goals.{After-is_ready, After-stored_value-stored}
@@ -14,21 +15,21 @@ use Rattle.gc_values.specs.Interning.{ids_of}
 use Rattle.gc_values.proofs.fill.write_same.Goals as goal
 
 pub returns-then-count-eq0 : goal.returns-then-count-eq0
-returns-then-count-eq0 g c = λ object shape n f. none_filled g.H.GcHeap.KIND c.args.owner.now.seen c.args.gc_ref.now c.args.ty (ids_of c.args.interned.now) c.args.value c.args.count object shape n f c.if-count-eq0.true
+returns-then-count-eq0 g c = λ object shape n f. none_filled g.H.GcHeap.KIND c.args.owner.now.seen c.args.gc_ref.now c.args.ty.now.index (ids_of c.args.interned.now) c.args.value c.args.count object shape n f c.if-count-eq0.true
 
 some : (g : Over) (c : After-is_ready g) → 0 < c.args.count
 some g c = omega (arith, c.if-count-eq0.false)
 
-has : (g : Over) (c : After-is_ready g) → HasStorageSlot g.H.GcHeap.KIND c.args.owner.now.seen.types.declarations c.args.ty 0
+has : (g : Over) (c : After-is_ready g) → HasStorageSlot g.H.GcHeap.KIND c.args.owner.now.seen.types.declarations c.args.ty.now.index 0
 has g c =
     let can = c.requires.can in
-    has_first g.H.GcHeap.KIND c.args.owner.now.seen c.args.gc_ref.now c.args.ty (ids_of c.args.interned.now) c.args.value c.args.count can.object can.shape can.count can.to_fill (some g c) c.is_ready.ensures.can c.is_ready.ensures.heap
+    has_first g.H.GcHeap.KIND c.args.owner.now.seen c.args.gc_ref.now c.args.ty.now.index (ids_of c.args.interned.now) c.args.value c.args.count can.object can.shape can.count can.to_fill (some g c) c.is_ready.ensures.can c.is_ready.ensures.heap
 
 pub slot_at-first-requires : goal.slot_at-first-requires
 slot_at-first-requires g c =
     let at = (goal.at.slot_at-first-requires g c).After-is_ready in
-    subst (λ (k : Layouts). HasStorageSlot k c.types.result.now.declarations c.args.ty 0) (sym c.KIND.ensures)
-    (subst (λ (ts : TypeTable). HasStorageSlot g.H.GcHeap.KIND ts.declarations c.args.ty 0) (sym c.types.ensures) (has g at))
+    subst (λ (k : Layouts). HasShapeSlot k c.args.ty.now.shape.now 0) (sym c.KIND.ensures)
+    (has_shape_slot g.H.GcHeap.KIND c.args.owner.now.seen.types.declarations c.args.ty.now.index 0 c.args.ty.now.shape.now c.requires.declared (has g at))
 
 pub stored_value-stored-requires-clause-rising : goal.stored_value-stored-requires-clause-rising
 stored_value-stored-requires-clause-rising g c = subst AreOwnedRising (sym c.owned.ensures) c.requires.can.to_fill.rising
@@ -40,13 +41,13 @@ stored_value-stored-requires-clause-kept g c =
     subst (λ (es : HandleRoots). CanBeKept (ids_of c.args.interned.now) es c.args.value) (sym same) (c.requires.can.to_fill.fit.kept (some g at))
 
 -- the slot is that of the first element, as any fields are said to be
-slot_is : (g : Over) (c : After-stored_value-stored g) (object : HeapObject) (shape : Shape) (n : ℕ) (f : IsToFill g.H.GcHeap.KIND c.args.owner.now.seen c.args.gc_ref.now c.args.ty (SameFits (ids_of c.args.interned.now) c.args.value c.args.count) object shape n)
+slot_is : (g : Over) (c : After-stored_value-stored g) (object : HeapObject) (shape : Shape) (n : ℕ) (f : IsToFill g.H.GcHeap.KIND c.args.owner.now.seen c.args.gc_ref.now c.args.ty.now.index (SameFits (ids_of c.args.interned.now) c.args.value c.args.count) object shape n)
     → storage_slot c.slot_at-first.result
-    ≡ first g.H.GcHeap.KIND c.args.owner.now.seen c.args.gc_ref.now c.args.ty (ids_of c.args.interned.now) c.args.value c.args.count object shape n f (some g (goal.at.After-stored_value-stored g c).After-is_ready) c.is_ready.ensures.can
+    ≡ first g.H.GcHeap.KIND c.args.owner.now.seen c.args.gc_ref.now c.args.ty.now.index (ids_of c.args.interned.now) c.args.value c.args.count object shape n f (some g (goal.at.After-stored_value-stored g c).After-is_ready) c.is_ready.ensures.can
 slot_is g c object shape n f =
-    first_found g.H.GcHeap.KIND c.args.owner.now.seen c.args.gc_ref.now c.args.ty (ids_of c.args.interned.now) c.args.value c.args.count object shape n f (some g (goal.at.After-stored_value-stored g c).After-is_ready) c.is_ready.ensures.can c.slot_at-first.result
-    (subst (λ (ts : TypeTable). FindsSlot g.H.GcHeap.KIND ts.declarations c.args.ty 0 c.slot_at-first.result) c.types.ensures
-    (subst (λ (k : Layouts). FindsSlot k c.types.result.now.declarations c.args.ty 0 c.slot_at-first.result) c.KIND.ensures c.slot_at-first.ensures))
+    first_found g.H.GcHeap.KIND c.args.owner.now.seen c.args.gc_ref.now c.args.ty.now.index (ids_of c.args.interned.now) c.args.value c.args.count object shape n f (some g (goal.at.After-stored_value-stored g c).After-is_ready) c.is_ready.ensures.can c.slot_at-first.result
+    (finds_slot g.H.GcHeap.KIND c.args.owner.now.seen.types.declarations c.args.ty.now.index 0 c.args.ty.now.shape.now c.requires.declared c.slot_at-first.result
+    (subst (λ (k : Layouts). FindsShapeSlot k c.args.ty.now.shape.now 0 c.slot_at-first.result) c.KIND.ensures c.slot_at-first.ensures))
 
 kept_is : (g : Over) (c : After-stored_value-stored g) → KeptAs (ids_of c.args.interned.now) (handle_roots c.args.owner.now.seen.roots) c.args.value c.stored_value-stored.result
 kept_is g c =
@@ -59,13 +60,13 @@ write_elements-requires-clause-can g c =
     let stored = (goal.at.write_elements-requires-clause-can g c).After-stored_value-stored in
     let can = c.requires.can in
     subst (λ (s : StorageSlot). AreElements g.H.GcHeap.KIND c.args.owner.now.seen c.args.gc_ref.now s c.args.count c.stored_value-stored.result) (sym (slot_is g stored can.object can.shape can.count can.to_fill))
-    (are_elements g.H.GcHeap.KIND c.args.owner.now.seen c.args.gc_ref.now c.args.ty (ids_of c.args.interned.now) c.args.value c.args.count can.object can.shape can.count can.to_fill (some g at) c.is_ready.ensures.can c.stored_value-stored.result (kept_is g stored))
+    (are_elements g.H.GcHeap.KIND c.args.owner.now.seen c.args.gc_ref.now c.args.ty.now.index (ids_of c.args.interned.now) c.args.value c.args.count can.object can.shape can.count can.to_fill (some g at) c.is_ready.ensures.can c.stored_value-stored.result (kept_is g stored))
 
 pub returns : goal.returns
 returns g c = λ object shape n f.
     let at = (goal.at.returns g c).After-is_ready in
     let stored = (goal.at.returns g c).After-stored_value-stored in
     let fills = subst (λ (s : StorageSlot). FillsAll g.H.GcHeap.KIND c.args.owner.now.seen c.write_elements.new.owner.seen c.args.gc_ref.now s c.args.count c.stored_value-stored.result) (slot_is g stored object shape n f) c.write_elements.ensures in
-    same_filled g.H.GcHeap.KIND c.args.owner.now.seen c.args.gc_ref.now c.args.ty (ids_of c.args.interned.now) c.args.value c.args.count object shape n f (some g at) c.is_ready.ensures.can c.stored_value-stored.result (kept_is g stored)
+    same_filled g.H.GcHeap.KIND c.args.owner.now.seen c.args.gc_ref.now c.args.ty.now.index (ids_of c.args.interned.now) c.args.value c.args.count object shape n f (some g at) c.is_ready.ensures.can c.stored_value-stored.result (kept_is g stored)
     c.write_elements.new.owner.seen c.stored_value-stored.ensures.small
-    (fills (are_elements g.H.GcHeap.KIND c.args.owner.now.seen c.args.gc_ref.now c.args.ty (ids_of c.args.interned.now) c.args.value c.args.count object shape n f (some g at) c.is_ready.ensures.can c.stored_value-stored.result (kept_is g stored)))
+    (fills (are_elements g.H.GcHeap.KIND c.args.owner.now.seen c.args.gc_ref.now c.args.ty.now.index (ids_of c.args.interned.now) c.args.value c.args.count object shape n f (some g at) c.is_ready.ensures.can c.stored_value-stored.result (kept_is g stored)))

@@ -42,8 +42,8 @@ keeps g c = keeps-making g.H.GcHeap.KIND c.args.first_pages c.args.is_due (befor
 
 -- what is described is so still
 described_as : {D : Type 0} (layouts : Layouts) (v w : OwnerView D) (d : Description) (o : HeapObject) (size : ℕ) → w.types ≡ v.types → IsOfTypes d → Describes layouts v d o size → Describes layouts w d o size
-described_as layouts v w (of.Object ty) o size same types is = (is.0, (ap (λ (ts : TypeTable). layout_at layouts ts.declarations ty) same ∙ is.1.0, is.1.1))
-described_as layouts v w (of.Array ty count) o size same types is = (is.0, (ap (λ (ts : TypeTable). array_layout_at layouts ts.declarations ty) same ∙ is.1.0, is.1.1))
+described_as layouts v w (of.Object ty layout) o size same types is = (ap (λ (ts : TypeTable). layout_at layouts ts.declarations ty) same ∙ is.0, is.1)
+described_as layouts v w (of.Array ty count layout) o size same types is = (ap (λ (ts : TypeTable). array_layout_at layouts ts.declarations ty) same ∙ is.0, is.1)
 described_as layouts v w (of.External id) o size same types is = absurd types
 
 described_again : (g : Over) (c : After-collect_if_due g) (o : HeapObject) → Describes g.H.GcHeap.KIND c.args.owner.now.seen c.args.description.now o c.args.size → Describes g.H.GcHeap.KIND c.collect_if_due.new.owner.seen c.args.description.now o c.args.size

@@ -30,7 +30,7 @@ layout_is c =
 slot_is : (c : After-elem_offset) → c.unwrap-layout.result.now.base_size + c.args.index * c.unwrap-layout.result.now.elem_size ≡ c.requires.has.slot.offset
 slot_is c =
     ap (λ (l : GcArrayLayout). l.base_size + c.args.index * l.elem_size) (layout_is c)
-    ∙ ap (λ (s : StorageSlot). s.offset) (element_found c.args.layouts c.args.types.now.declarations c.args.ty c.args.index c.args.element c.requires.element c.requires.has.shape c.requires.has.count c.requires.has.slot c.requires.has.declared c.requires.has.slot_is)
+    ∙ ap (λ (s : StorageSlot). s.offset) (element_found c.args.layouts c.args.shape.now c.args.index c.args.element c.requires.element c.requires.has.count c.requires.has.slot c.requires.has.slot_is)
 
 pub unwrap-requires : goal.unwrap-requires
 unwrap-requires c =
@@ -38,8 +38,8 @@ unwrap-requires c =
     offset_some c.elem_offset.result _ c.elem_offset.ensures.none (subst (λ (n : ℕ). n < 2 ^ 32) (sym (slot_is at)) c.requires.has.small)
 
 pub returns : goal.returns
-returns c shape count slot declared is =
+returns c count slot is =
     let at = (goal.at.returns c).After-elem_offset in
     let offset = offset_is c.elem_offset.result c.unwrap.result _ c.elem_offset.ensures.some c.unwrap.ensures ∙ ap (λ (l : GcArrayLayout). l.base_size + c.args.index * l.elem_size) (layout_is at) in
     (λ i. record { storage = c.args.element.element_type; offset = offset i })
-    ∙ element_found c.args.layouts c.args.types.now.declarations c.args.ty c.args.index c.args.element c.requires.element shape count slot declared is
+    ∙ element_found c.args.layouts c.args.shape.now c.args.index c.args.element c.requires.element count slot is

@@ -1,6 +1,6 @@
 use Rattle.std.proofs.Common.{◌≡◌, ℕ, List, Some, true, sym, ap, ◌∙◌, subst, refl}
 use Rattle.std.specs.Option.{option_copied}
-use Rattle.gc_types.specs.Declarations.{Declaration, elem_at}
+use Rattle.gc_types.specs.Declarations.{Declaration, elem_at, shape_at}
 use Rattle.gc_types.specs.declared.types.Types.{Types}
 use Rattle.gc_commands.specs.declared.command.Command.TheVariants.{NewBytes}
 use Rattle.gc_script.specs.Endings.{answer_of}
@@ -12,7 +12,8 @@ use Rattle.gc_script.specs.Steps.{heap_tests}
 use Rattle.gc_script.specs.Shapes.{new_bytes}
 use Rattle.gc_script.specs.Run.{RunsOne}
 use Rattle.gc_script.proofs.MakeTests.{runs_rest, bytes_heap}
-use Rattle.gc_script.proofs.ResultLemmas.{on_any_err}
+use Rattle.gc_script.proofs.GoesLemmas.{wants_nothing}
+use Rattle.gc_script.proofs.ResultLemmas.{on_any_err, second_is}
 use Rattle.gc_script.proofs.WantLemmas.{room_may}
 use Rattle.gc_script.proofs.runner.Runner.make_bytes.Given as given
 use Rattle.gc_script.proofs.runner.Runner.make_bytes.Goals as goal
@@ -21,10 +22,11 @@ use Rattle.gc_script.proofs.runner.Runner.make_bytes.Goals.{In-Some}
 -- the type of its elements, in each table that the store holds
 known : (g : given.Over) (c : In-Some g) (types : List Declaration) → c.args.store.now.types ≡ types → elem_at types c.new-ty.result ≡ Some c.in-Some.element.now
 known g c types same =
-    sym (c.elem_type.ensures
+    second_is c.array_shape.result c.in-Some.shape c.in-Some.element (elem_at types c.new-ty.result)
+    (c.array_shape.ensures.element
     ∙ ap (λ (x : Types). elem_at x.declarations c.new-ty.result) c.types.ensures
     ∙ ap (λ (ts : List Declaration). elem_at ts c.new-ty.result) same)
-    ∙ ap option_copied c.in-Some.is
+    c.in-Some.is
 
 pub returns-clause-runs : goal.returns-clause-runs
 returns-clause-runs g c s holds =
@@ -47,3 +49,10 @@ returns-clause-cause g c =
     subst (λ (ty : ℕ). MayWant g.H.GcHeap.KIND s (NewBytes c.args.d ty c.args.bytes.now)) c.new-ty.ensures
     (room_may g.H.GcHeap.KIND s (NewBytes c.args.d c.new-ty.result c.args.bytes.now) (new_bytes c.new-ty.result c.args.bytes.now) refl
     (bytes_heap g.H.GcHeap.KIND s c.args.d c.new-ty.result c.args.bytes.now c.in-Some.element.now declared are)))
+
+pub returns-in_default-clone-clause-runs : goal.returns-in_default-clone-clause-runs
+returns-in_default-clone-clause-runs g c s holds = record { wants = wants_nothing g.H.GcHeap.KIND c.args.store.now.alloc_counter (g.L.ResourceLimiter.limits c.args.limiter.now) s _ _ c.args.store.now c.args.self.now holds }
+
+pub place-requires-clause-listed : goal.place-requires-clause-listed
+place-requires-clause-listed g c =
+    ap (λ (x : Types). shape_at x.declarations c.new-ty.result) (sym c.types.ensures) ∙ c.in-Some.ensures.listed ∙ ap Some (sym (c.deref.ensures ∙ c.in-Ok-clone.ensures.cases))

@@ -14,5 +14,5 @@ returns-in-Each g c =
 pub returns-in-Array-request : goal.returns-in-Array-request
 returns-in-Array-request g c =
     subst (λ (request : Place). FillsAs g.H.GcHeap.KIND (front_of g.H.GcHeap.KIND request) c.args.owner.now.seen c.write_bytes.new.owner.seen c.args.gc_ref.now (asked_type request) (ContentsFit (ids_of c.args.interned.now) request c.args.self.now) (ContentsStand (ids_of c.args.interned.now) c.args.self.now)) (sym c.in-Array-request.is)
-    (subst (λ (x : Contents). FillsNew g.H.GcHeap.KIND c.args.owner.now.seen c.write_bytes.new.owner.seen c.args.gc_ref.now c.in-Array-request.ty (ContentsFit (ids_of c.args.interned.now) (place.Array c.in-Array-request.ty c.in-Array-request.field-1) x) (ContentsStand (ids_of c.args.interned.now) x)) (sym c.in-Bytes.is)
+    (subst (λ (x : Contents). FillsNew g.H.GcHeap.KIND c.args.owner.now.seen c.write_bytes.new.owner.seen c.args.gc_ref.now c.in-Array-request.index (ContentsFit (ids_of c.args.interned.now) (place.Array c.in-Array-request.index c.in-Array-request.field-1) x) (ContentsStand (ids_of c.args.interned.now) x)) (sym c.in-Bytes.is)
     c.write_bytes.ensures)
