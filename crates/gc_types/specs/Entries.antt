@@ -1,15 +1,16 @@
 -- What the table keeps of each declared type.
-use Rattle.std.specs.Prelude.{ℕ, Bool, true, false, List}
+use Rattle.std.specs.Prelude.{ℕ, Bool, true, false, List, Option}
 use Rattle.gc_types.specs.declared.kind.Layouts.{Layouts}
 use Rattle.gc_types.specs.declared.kind.Layouts.TheVariants.{Null, Counting, Copying}
 use Rattle.gc_types.specs.declared.value.FieldType.{FieldType}
 use Rattle.gc_types.specs.declared.layout.GcStructLayout.{GcStructLayout}
 use Rattle.gc_types.specs.declared.layout.GcArrayLayout.{GcArrayLayout}
-use Rattle.gc_types.specs.declared.layout.TraceInfo.TheVariants as trace
-use Rattle.gc_types.specs.declared.placement.ObjectLayout.{ObjectLayout}
+use Rattle.gc_types.specs.declared.layout.TraceInfo.{TraceInfo}
 use Rattle.gc_types.specs.declared.placement.ObjectLayouts.{ObjectLayouts}
 use Rattle.gc_types.specs.declared.placement.ArrayLayouts.{ArrayLayouts}
-use Rattle.gc_types.specs.Layouts.{struct_base, exception_base, fields_end, field_layouts, array_layout, ref_offsets, is_gc_storage}
+use Rattle.gc_types.specs.declared.traces.Traces.{Traces}
+use Rattle.gc_types.specs.Declarations.{Shape}
+use Rattle.gc_types.specs.Layouts.{struct_base, exception_base, fields_end, field_layouts, array_layout, shape_trace}
 
 -- the layout of fields that begin at base
 abbrev pub fields_layout : ℕ → Bool → List FieldType → GcStructLayout
@@ -21,12 +22,9 @@ abbrev pub object_base : Bool → Layouts → ℕ
 object_base false layouts = struct_base layouts
 object_base true layouts = exception_base layouts
 
--- what is kept of a struct or an exception for one heap
-abbrev pub object_layout : Bool → Layouts → List FieldType → ObjectLayout
-object_layout is_exception layouts fields = record {
-  layout = fields_layout (object_base is_exception layouts) is_exception fields;
-  trace = trace.Struct (ref_offsets (field_layouts (object_base is_exception layouts) fields));
-}
+-- the layout of a struct or an exception
+abbrev pub object_layout : Bool → Layouts → List FieldType → GcStructLayout
+object_layout is_exception layouts fields = fields_layout (object_base is_exception layouts) is_exception fields
 
 -- for each heap
 abbrev pub object_layouts : Bool → List FieldType → ObjectLayouts
@@ -36,7 +34,7 @@ object_layouts is_exception fields = record {
   copying = object_layout is_exception Copying fields;
 }
 
-abbrev pub object_in : Layouts → ObjectLayouts → ObjectLayout
+abbrev pub object_in : Layouts → ObjectLayouts → GcStructLayout
 object_in Null o = o.null
 object_in Counting o = o.counting
 object_in Copying o = o.copying
@@ -47,10 +45,22 @@ array_layouts elem = record {
   null = array_layout Null elem;
   counting = array_layout Counting elem;
   copying = array_layout Copying elem;
-  trace = trace.Array (is_gc_storage elem.element_type);
 }
 
 abbrev pub array_in : Layouts → ArrayLayouts → GcArrayLayout
 array_in Null o = o.null
 array_in Counting o = o.counting
 array_in Copying o = o.copying
+
+-- where the references of a type's objects lie in each heap
+abbrev pub shape_traces : Shape → Traces
+shape_traces shape = record {
+  null = shape_trace Null shape;
+  counting = shape_trace Counting shape;
+  copying = shape_trace Copying shape;
+}
+
+abbrev pub trace_in : Layouts → Traces → Option TraceInfo
+trace_in Null t = t.null
+trace_in Counting t = t.counting
+trace_in Copying t = t.copying

@@ -3,14 +3,15 @@
 ghost use Rattle.std.specs.Prelude.{◌≡◌, ◌≤◌, true, false, length, map, option_map, option_copied, slice_get, IfOk};
 ghost use Rattle.std.specs.Option.{option_and_then};
 ghost use Rattle.gc_types.specs.Declarations.{shape_kind, shape_fields, shape_struct_fields, shape_elem, constant_field};
-ghost use Rattle.gc_types.specs.Layouts.{shape_layout, array_layout, shape_trace, is_gc_storage};
+ghost use Rattle.gc_types.specs.Layouts.{shape_layout, array_layout, shape_trace};
 ghost use Rattle.gc_types.specs.Entries.{object_layout};
 ghost use Rattle.gc_types.specs.Shapes.{shape_of};
 
 use crate::index::VMSharedTypeIndex;
 use crate::kind::{Layouts, TypeKind};
 use crate::layout::{GcArrayLayout, GcStructLayout, TraceInfo};
-use crate::placement::{ArrayLayouts, ObjectLayout, ObjectLayouts};
+use crate::placement::{ArrayLayouts, ObjectLayouts};
+use crate::traces::Traces;
 use crate::value::{FieldType, Mutability, StorageType, ValType};
 use std::alloc::{AllocError, Global};
 use std::marker::Model;
@@ -52,8 +53,9 @@ impl StructFields {
         self.fields.as_slice()
     }
 
+    /// Where they lie in that heap.
     #[inline(always)]
-    fn in_heap(&self, heap: Layouts) -> &ObjectLayout
+    pub(crate) fn layout(&self, heap: Layouts) -> &GcStructLayout
         ensures { result.now ≡ object_layout false heap self.now }
     {
         self.layouts.get(heap)
@@ -111,8 +113,9 @@ impl ExnParams {
         self.fields.as_slice()
     }
 
+    /// Where they lie in that heap.
     #[inline(always)]
-    fn in_heap(&self, heap: Layouts) -> &ObjectLayout
+    pub(crate) fn layout(&self, heap: Layouts) -> &GcStructLayout
         ensures { result.now ≡ object_layout true heap (map constant_field self.now) }
     {
         self.layouts.get(heap)
@@ -182,12 +185,6 @@ impl ArrayElem {
         ensures { result.now ≡ array_layout heap self.now }
     {
         self.layouts.get(heap)
-    }
-
-    fn trace(&self) -> &TraceInfo
-        ensures { result.now ≡ TraceInfo.Array (is_gc_storage self.now.element_type) }
-    {
-        &self.layouts.trace
     }
 }
 
@@ -287,7 +284,7 @@ impl TypeShape {
     /// That field of a struct or an exception.
     // An arm for each: of one field nothing but what is asked of it is read then.
     #[inline(always)]
-    pub fn field(&self, index: usize) -> Option<FieldType>
+    pub(crate) fn field(&self, index: usize) -> Option<FieldType>
         ensures { result ≡ option_and_then (λ fields. slice_get fields index) (shape_fields self.now) }
     {
         match &self.body {
@@ -317,8 +314,8 @@ impl TypeShape {
         ensures { option_copied result ≡ shape_layout heap self.now }
     {
         match &self.body {
-            Body::Struct(fields) => Some(&fields.in_heap(heap).layout),
-            Body::Exn(params) => Some(&params.in_heap(heap).layout),
+            Body::Struct(fields) => Some(fields.layout(heap)),
+            Body::Exn(params) => Some(params.layout(heap)),
             Body::Array(_) | Body::Func(_) => None,
         }
     }
@@ -333,34 +330,28 @@ impl TypeShape {
             Body::Struct(_) | Body::Exn(_) | Body::Func(_) => None,
         }
     }
-
-    /// Where the references of an object lie.
-    pub(crate) fn trace_info(&self, heap: Layouts) -> Option<&TraceInfo>
-        ensures { option_copied result ≡ shape_trace heap self.now }
-    {
-        match &self.body {
-            Body::Struct(fields) => Some(&fields.in_heap(heap).trace),
-            Body::Array(array) => Some(array.trace()),
-            Body::Exn(params) => Some(&params.in_heap(heap).trace),
-            Body::Func(_) => None,
-        }
-    }
 }
 
 /// A declared type.
 #[derive(Drop)]
 pub(crate) struct Declared {
     shape: Rc<TypeShape>,
+    // Beside the share: a collection looks at one of them for each object.
+    traces: Traces,
     supertype: Option<VMSharedTypeIndex>,
     is_final: bool,
 }
 
 impl Model for Declared {
+    ghost use Rattle.std.specs.Prelude.{◌≡◌};
     ghost use Rattle.gc_types.specs.Declarations.{Declaration};
+    ghost use Rattle.gc_types.specs.Entries.{shape_traces};
 
     ghost Value = { Declaration };
 
     ghost view = { λ d. record { shape = d.shape.value; supertype = d.supertype; is_final = d.is_final } };
+
+    ghost invariant = { λ d. d.traces ≡ shape_traces d.shape.value };
 }
 
 impl Declared {
@@ -372,9 +363,11 @@ impl Declared {
     ) -> Result<Declared, AllocError>
         ensures { IfOk result (λ d. d ≡ record { shape = shape_of body; supertype = supertype; is_final = is_final }) }
     {
-        let shape = Rc::new(alloc, TypeShape { body })?;
+        let shape = TypeShape { body };
+        let traces = Traces::new(alloc, &shape)?;
         Ok(Declared {
-            shape,
+            shape: Rc::new(alloc, shape)?,
+            traces,
             supertype,
             is_final,
         })
@@ -397,6 +390,14 @@ impl Declared {
         ensures { result ≡ shape_kind self.now.shape }
     {
         self.shape.kind()
+    }
+
+    /// Where the references of the type's objects lie; functions are no objects.
+    #[inline(always)]
+    pub(crate) fn trace_info(&self, heap: Layouts) -> Option<&TraceInfo>
+        ensures { option_copied result ≡ shape_trace heap self.now.shape }
+    {
+        self.traces.get(heap)
     }
 
     pub(crate) fn supertype(&self) -> Option<VMSharedTypeIndex>

@@ -18,6 +18,7 @@ pub mod layout_laws;
 mod matching;
 pub mod matching_laws;
 mod placement;
+mod traces;
 mod type_names;
 pub mod types;
 pub mod value;

@@ -1,11 +1,11 @@
 //! The layouts of a type in each of the three heaps.
 
 ghost use Rattle.std.specs.Prelude.{◌≡◌, ◌+◌, ◌≤◌, ◌<◌, ◌^◌, length, IfOk};
-ghost use Rattle.gc_types.specs.Layouts.{struct_base, exception_base, array_base, array_layout, storage_width, is_gc_storage, is_gc_heap_type, round_up, ref_offsets};
+ghost use Rattle.gc_types.specs.Layouts.{struct_base, exception_base, array_base, array_layout, storage_width, is_gc_storage, is_gc_heap_type, round_up};
 ghost use Rattle.gc_types.specs.Entries.{fields_layout, object_layout, object_layouts, object_in, array_layouts, array_in};
 
 use crate::kind::Layouts;
-use crate::layout::{FieldLayout, FieldLayouts, GcArrayLayout, GcStructLayout, Offsets, TraceInfo};
+use crate::layout::{FieldLayout, FieldLayouts, GcArrayLayout, GcStructLayout};
 use crate::value::{FieldType, HeapType, StorageType, ValType};
 use std::alloc::{AllocError, Global};
 
@@ -126,56 +126,30 @@ fn lay_out(
     })
 }
 
-/// The offsets of the references among the fields.
-fn references(alloc: Global, fields: &[FieldLayout]) -> Result<Vec<u32>, AllocError>
-    ensures { IfOk result (λ offsets. offsets.items ≡ ref_offsets fields.now) }
-{
-    fields
-        .iter()
-        .filter(|field| field.is_gc_ref)
-        .map(|field| field.offset)
-        .collect(alloc)
-}
-
-/// Where the values of a struct or an exception lie in one heap.
-#[derive(Drop)]
-pub(crate) struct ObjectLayout {
-    pub(crate) layout: GcStructLayout,
-    pub(crate) trace: TraceInfo,
-}
-
-impl ObjectLayout {
-    fn new(
-        alloc: Global,
-        heap: Layouts,
-        is_exception: bool,
-        fields: &[FieldType],
-    ) -> Result<ObjectLayout, AllocError>
-        requires { length fields.now ≤ 10000 }
-        ensures { IfOk result (λ o. o ≡ object_layout is_exception heap fields.now) }
-    {
-        let base = if is_exception {
-            heap.exception_base()
-        } else {
-            heap.struct_base()
-        };
-        let layout = lay_out(alloc, base, is_exception, fields)?;
-        let offsets = references(alloc, layout.fields.as_slice())?;
-        Ok(ObjectLayout {
-            layout,
-            trace: TraceInfo::Struct {
-                gc_ref_offsets: Offsets::from(offsets),
-            },
-        })
-    }
-}
-
 /// Where the values of a struct or an exception lie in each heap.
 #[derive(Drop)]
 pub(crate) struct ObjectLayouts {
-    null: ObjectLayout,
-    counting: ObjectLayout,
-    copying: ObjectLayout,
+    null: GcStructLayout,
+    counting: GcStructLayout,
+    copying: GcStructLayout,
+}
+
+/// The layout of a struct or an exception in that heap. Its time is linear in the fields.
+fn lay_out_in(
+    alloc: Global,
+    heap: Layouts,
+    is_exception: bool,
+    fields: &[FieldType],
+) -> Result<GcStructLayout, AllocError>
+    requires { length fields.now ≤ 10000 }
+    ensures { IfOk result (λ o. o ≡ object_layout is_exception heap fields.now) }
+{
+    let base = if is_exception {
+        heap.exception_base()
+    } else {
+        heap.struct_base()
+    };
+    lay_out(alloc, base, is_exception, fields)
 }
 
 impl ObjectLayouts {
@@ -188,9 +162,9 @@ impl ObjectLayouts {
         requires { length fields.now ≤ 10000 }
         ensures { IfOk result (λ o. o ≡ object_layouts is_exception fields.now) }
     {
-        let null = ObjectLayout::new(alloc, Layouts::Null, is_exception, fields)?;
-        let counting = ObjectLayout::new(alloc, Layouts::Counting, is_exception, fields)?;
-        let copying = ObjectLayout::new(alloc, Layouts::Copying, is_exception, fields)?;
+        let null = lay_out_in(alloc, Layouts::Null, is_exception, fields)?;
+        let counting = lay_out_in(alloc, Layouts::Counting, is_exception, fields)?;
+        let copying = lay_out_in(alloc, Layouts::Copying, is_exception, fields)?;
         Ok(ObjectLayouts {
             null,
             counting,
@@ -199,7 +173,7 @@ impl ObjectLayouts {
     }
 
     /// The layout in that heap.
-    pub(crate) fn get(&self, heap: Layouts) -> &ObjectLayout
+    pub(crate) fn get(&self, heap: Layouts) -> &GcStructLayout
         ensures { result.now ≡ object_in heap self.now }
     {
         match heap {
@@ -216,7 +190,6 @@ pub(crate) struct ArrayLayouts {
     null: GcArrayLayout,
     counting: GcArrayLayout,
     copying: GcArrayLayout,
-    pub(crate) trace: TraceInfo,
 }
 
 impl Layouts {
@@ -242,9 +215,6 @@ impl ArrayLayouts {
             null: Layouts::Null.array_layout(elem),
             counting: Layouts::Counting.array_layout(elem),
             copying: Layouts::Copying.array_layout(elem),
-            trace: TraceInfo::Array {
-                gc_ref_elems: elem.element_type.is_gc_ref(),
-            },
         }
     }
 

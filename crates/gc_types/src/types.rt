@@ -362,17 +362,9 @@ impl Types {
     pub fn array_elem(&self, ty: VMSharedTypeIndex) -> Option<FieldType>
         ensures { result ≡ elem_at self.now.declarations ty }
     {
-        let elem = self.elem_type(ty)?;
-        Some(*elem)
-    }
-
-    /// The type of the elements, lent; None exactly where the index names no array type.
-    #[inline(always)]
-    pub fn elem_type(&self, ty: VMSharedTypeIndex) -> Option<&FieldType>
-        ensures { option_copied result ≡ elem_at self.now.declarations ty }
-    {
         let declared = self.declared.get(ty.as_u32() as usize)?;
-        declared.shape().elem_type()
+        let elem = declared.shape().elem_type()?;
+        Some(*elem)
     }
 
     /// Where the fields of the struct or exception type lie in that heap; None exactly where the
@@ -402,6 +394,6 @@ impl Types {
         ensures { option_copied result ≡ trace_at heap self.now.declarations ty }
     {
         let declared = self.declared.get(ty.as_u32() as usize)?;
-        declared.shape().trace_info(heap)
+        declared.trace_info(heap)
     }
 }
