@@ -6,14 +6,13 @@ use Rattle.std.proofs.lemmas.Option.{none-some}
 use Rattle.gc_types.specs.declared.value.FieldType.{FieldType}
 use Rattle.gc_types.specs.declared.value.StorageType.{StorageType}
 use Rattle.gc_types.specs.declared.value.ValType.{ValType}
-use Rattle.gc_types.specs.declared.value.Tag.{Tag}
 use Rattle.gc_types.specs.declared.kind.Layouts.{Layouts}
 use Rattle.gc_types.specs.declared.kind.TypeKind.TheVariants as kinds
 use Rattle.gc_types.specs.declared.layout.FieldLayout.{FieldLayout}
 use Rattle.gc_types.specs.Declarations.{Declaration, Shape, struct_of, array_of, exn_of, func_of, shape_kind, constant_field, shape_struct_fields, declaration_struct_fields, shape_elem, declaration_elem, struct_fields_at, elem_at, shape_at}
 use Rattle.gc_types.specs.Layouts.{struct_base, exception_base, field_layouts, field_offset, storage_width}
 use Rattle.gc_view.specs.Slots.{StorageSlot, field_slots, element_slots, elements_from, shape_slots, shape_size}
-use Rattle.gc_model.specs.Values.{Value, Object, struct, array, host, exception}
+use Rattle.gc_model.specs.Values.{Object, struct, array, host, exception}
 use Rattle.gc_model.specs.Reach.{object_values}
 use Rattle.gc_model.specs.Sizes.{shape_exn_fields, exn_fields_at, object_size, fields_size, elements_size, exception_size}
 use Rattle.gc_model.specs.Stored.{listed_type, value_type}
@@ -225,36 +224,3 @@ array_shape types ty element e = element_shape (slice_get types ty) element e
 pub exception_shape : (types : List Declaration) (ty : ℕ) (fields : List FieldType) → exn_fields_at types ty ≡ Some fields
     → (params : List ValType) × ((shape_at types ty ≡ Some (exn_of params)) × (map constant_field params ≡ fields))
 exception_shape types ty fields e = params_shape (slice_get types ty) fields e
-
--- a field of a struct is the slot of its value
-pub struct_slot : {D : Type 0} (layouts : Layouts) (types : List Declaration) (ty : ℕ) (values : List Value) (fields : List FieldType) (index : ℕ) (field : FieldType) (layout : FieldLayout)
-    → struct_fields_at types ty ≡ Some fields → slice_get fields index ≡ Some field → slice_get (field_layouts (struct_base layouts) fields) index ≡ Some layout
-    → IsSlotOf {D = D} layouts types (struct ty values) index (slot_of field layout)
-struct_slot layouts types ty values fields index field layout declared e f = record {
-  shape = struct_of fields;
-  declared = struct_shape types ty fields declared;
-  slot_is = field_slot (struct_base layouts) fields index field layout e f;
-}
-
--- and so is an element of an array
-pub array_slot : {D : Type 0} (layouts : Layouts) (types : List Declaration) (ty : ℕ) (values : List Value) (element : FieldType) (index : ℕ) → elem_at types ty ≡ Some element → index < length values
-    → IsSlotOf {D = D} layouts types (array ty values) index (element_slot layouts element index)
-array_slot layouts types ty values element index declared below = record {
-  shape = array_of element;
-  declared = array_shape types ty element declared;
-  slot_is = element_slot_at element.element_type (length values) (elements_from layouts element) index below;
-}
-
--- and a field of an exception
-pub exception_slot : {D : Type 0} (layouts : Layouts) (types : List Declaration) (ty : ℕ) (tag : Tag) (values : List Value) (fields : List FieldType) (index : ℕ) (field : FieldType) (layout : FieldLayout)
-    → exn_fields_at types ty ≡ Some fields → slice_get fields index ≡ Some field → slice_get (field_layouts (exception_base layouts) fields) index ≡ Some layout
-    → IsSlotOf {D = D} layouts types (exception ty tag values) index (slot_of field layout)
-exception_slot layouts types ty tag values fields index field layout declared e f =
-    let params = params_shape (slice_get types ty) fields declared in
-    record {
-      shape = exn_of params.0;
-      declared = params.1.0;
-      slot_is =
-          ap (λ (fs : List FieldType). slice_get (field_slots (exception_base layouts) fs) index) params.1.1
-          ∙ field_slot (exception_base layouts) fields index field layout e f;
-    }

@@ -1,5 +1,5 @@
 -- What stands for an object with values, whichever its kind is, and when it stands still.
-use Rattle.std.proofs.Common.{◌≡◌, ℕ, ◌+◌, ◌-◌, ◌<◌, ◌≤◌, inl, inr, List, length, Option, Some, None, refl, sym, ap, ◌∙◌, subst, arith}
+use Rattle.std.proofs.Common.{◌≡◌, ℕ, ◌+◌, ◌-◌, ◌<◌, ◌≤◌, inl, inr, List, length, Option, Some, None, refl, sym, ap, ◌∙◌, arith}
 use Rattle.std.specs.List.{slice_get}
 use Rattle.std.specs.Prelude.{slice_set}
 use Rattle.std.proofs.lemmas.Option.{none-some, same_Some, slice_get_cases}
@@ -161,12 +161,6 @@ module _ {D : Type 0} (layouts : Layouts) (types : List Declaration) (names : Na
   slot_value slot is =
       let by = stands_by_shape layouts types names o h (slot_not_host layouts types o index slot is) stands in
       shape_slot_value layouts types names o h by index slot (slot_stands layouts types names o h by index slot is)
-
-  -- and a value lies in the slot that its type has there
-  pub value_in_slot : (value : Value) (slot : StorageSlot) → slice_get (object_values o) index ≡ Some value → IsSlotOf layouts types o index slot → LiesAs names slot.storage value h.bytes (slot.offset - struct_base layouts)
-  value_in_slot value slot e is =
-      let lying = value_lying value e in
-      subst (λ (s : StorageSlot). LiesAs names s.storage value h.bytes (s.offset - struct_base layouts)) (slot_alone layouts types o index lying.slot slot lying.is_slot is) lying.lies
 
 -- The type of the value in a slot, as the table says and as the slot does.
 pub record SlotType {D : Type 0} (types : List Declaration) (o : Object D) (index : ℕ) (slot : StorageSlot) : Type 0 where

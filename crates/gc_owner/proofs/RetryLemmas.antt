@@ -134,10 +134,6 @@ module _ {D : Type 0} (layouts : Layouts) (d : Description) (o : HeapObject) (si
   grows_try bytes s e (Err pages_fault.Refused) at grows = grown_try bytes s false e at grows
   grows_try bytes s e (Err pages_fault.Memory) at readied = readied_try s e at readied
 
--- at what is made of a description itself
-pub can_try : {D : Type 0} (layouts : Layouts) (d : Description) (v : OwnerView D) → IsHeap layouts v.heap → CanBegin layouts v → (make : CanMakeDescribed layouts v d) → CanTry layouts d make.object make.size v
-can_try layouts d v heap can make = record { heap = heap; can = can; make = make; described = make.described }
-
 -- What a try answers on the way
 
 -- an answer that ends an allocation anyhow

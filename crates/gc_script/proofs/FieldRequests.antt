@@ -74,10 +74,6 @@ module _ (s : State) (fields : Option (List FieldType)) (vs : List Operand) (res
   abbrev from_names : List (Bool × Refusal)
   from_names = (any_unset s vs, refusal.NoSuchName) ∷ from_count
 
-  -- there is no such type
-  pub fields_unknown : fields ≡ None → first_failing (fields_tests s fields vs ++ rest) ≡ Some refusal.NoSuchName
-  fields_unknown none = stops (is_none fields) refusal.NoSuchName from_names (ap is_none none)
-
   module _ (known : List FieldType) (is : fields ≡ Some known) where
     past_type : first_failing (fields_tests s fields vs ++ rest) ≡ first_failing from_names
     past_type = passes (is_none fields) refusal.NoSuchName from_names (ap is_none is)

@@ -125,10 +125,12 @@ module _ {D : Type 0} (layouts : Layouts) (s : StoreView D) (t : Table D) (place
         has = record {
           shape = array_of b.element;
           declared = lies.is.declared;
-          count = 1;
-          slot = record { storage = b.element.element_type; offset = first };
-          slot_is = refl;
-          small = (let end = held_small layouts s.heap word lies.object heap lies.is.held in omega (arith, end, room, held_size_is layouts lies.object (array_of b.element) (length values) lies.is.has));
+          has = record {
+            count = 1;
+            slot = record { storage = b.element.element_type; offset = first };
+            slot_is = refl;
+            small = (let end = held_small layouts s.heap word lies.object heap lies.is.held in omega (arith, end, room, held_size_is layouts lies.object (array_of b.element) (length values) lies.is.has));
+          };
         };
       }
 

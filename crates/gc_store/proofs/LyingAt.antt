@@ -131,14 +131,16 @@ module _ {D : Type 0} (layouts : Layouts) (s : StoreView D) (t : Table D) (place
       has = record {
         shape = lies.shape;
         declared = lies.is.declared;
-        count = lies.count;
-        slot = lies.lying.slot;
-        slot_is = lies.slot_is;
-        small = (
-            let end = held_small layouts s.heap word lies.object heap lies.is.held in
-            let reach = bytes_reach layouts s.types s.heap word lies.object lies.shape lies.count lies.is traced in
-            let range = slot_lies layouts s.types s.heap word lies.object lies.shape lies.count lies.is traced index lies.lying.slot lies.slot_is in
-            omega (arith, range.high, end, reach, held_size_is layouts lies.object lies.shape lies.count lies.is.has));
+        has = record {
+          count = lies.count;
+          slot = lies.lying.slot;
+          slot_is = lies.slot_is;
+          small = (
+              let end = held_small layouts s.heap word lies.object heap lies.is.held in
+              let reach = bytes_reach layouts s.types s.heap word lies.object lies.shape lies.count lies.is traced in
+              let range = slot_lies layouts s.types s.heap word lies.object lies.shape lies.count lies.is traced index lies.lying.slot lies.slot_is in
+              omega (arith, range.high, end, reach, held_size_is layouts lies.object lies.shape lies.count lies.is.has));
+        };
       };
     }
 

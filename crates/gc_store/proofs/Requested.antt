@@ -36,7 +36,7 @@ use Rattle.gc_model.specs.Holds.{Placing, Holds}
 use Rattle.gc_model.proofs.Interned.{side-stored, side-stored_in, side-mapped, side-bytes, side-replicate}
 use Rattle.gc_model.proofs.Lists.{slice_get-same_length}
 use Rattle.gc_model.proofs.MadeObjects.{struct_stands, array_stands, exception_stands}
-use Rattle.gc_model.proofs.ObjectShapes.{struct_shape, array_shape, exception_shape, type_of_slot, FieldOfSlot, field_of_slot}
+use Rattle.gc_model.proofs.ObjectShapes.{exception_shape, type_of_slot, FieldOfSlot, field_of_slot}
 use Rattle.gc_model.proofs.StoredValues.{kept_value, length-stored_in, mapped_from, typed-struct, typed-exception, typed-array, typed-filled, typed-bytes}
 use Rattle.gc_model.proofs.Typing.{IsTypedObject}
 use Rattle.gc_values.specs.declared.request.Place.{Place}
@@ -112,20 +112,6 @@ new_of D layouts s (place.Exn ty tag) (contents.Each values) counted can =
     new_exn_is D layouts s.types ty tag params.0 params.1.0
 new_of D layouts s (place.Exn ty tag) (contents.Same value) counted can = absurd can
 new_of D layouts s (place.Exn ty tag) (contents.Bytes bytes) counted can = absurd can
-
--- what its type lists
-pub listed_by : (D : Type 0) (layouts : Layouts) (s : StoreView D) (request : Place) (given : Contents) → CanPlaceIn D layouts s request given → (shape : Shape) × (shape_at s.types (asked_type request) ≡ Some shape)
-listed_by D layouts s (place.Struct ty) (contents.Each values) can = (struct_of can.fields, struct_shape s.types ty can.fields can.declared)
-listed_by D layouts s (place.Array ty count) (contents.Each values) can = (array_of can.element, array_shape s.types ty can.element can.declared)
-listed_by D layouts s (place.Array ty count) (contents.Same value) can = (array_of can.element, array_shape s.types ty can.element can.declared)
-listed_by D layouts s (place.Array ty count) (contents.Bytes bytes) can = (array_of can.element, array_shape s.types ty can.element can.declared)
-listed_by D layouts s (place.Struct ty) (contents.Same value) can = absurd can
-listed_by D layouts s (place.Struct ty) (contents.Bytes bytes) can = absurd can
-listed_by D layouts s (place.Exn ty tag) (contents.Each values) can =
-    let params = exception_shape s.types ty can.fields can.declared in
-    (exn_of params.0, params.1.0)
-listed_by D layouts s (place.Exn ty tag) (contents.Same value) can = absurd can
-listed_by D layouts s (place.Exn ty tag) (contents.Bytes bytes) can = absurd can
 
 -- what a request is described by is of a declared type
 pub of_types : (layouts : Layouts) (types : List Declaration) (request : Place) (d : Description) → IsDescribedBy layouts types request d → IsOfTypes d

@@ -64,10 +64,11 @@ impl StructFields {
 
 /// An exception's parameters and the fields that they stand for, with where these lie in each heap.
 #[derive(Drop)]
+// What it has alike with a struct stands first, so that one is read as the other.
 pub(crate) struct ExnParams {
-    params: Vec<ValType>,
     fields: Vec<FieldType>,
     layouts: ObjectLayouts,
+    params: Vec<ValType>,
 }
 
 impl Model for ExnParams {
@@ -93,9 +94,9 @@ impl ExnParams {
         let layouts = ObjectLayouts::new(alloc, true, fields.as_slice())?;
         let params = Vec::from_slice(alloc, params)?;
         Ok(ExnParams {
-            params,
             fields,
             layouts,
+            params,
         })
     }
 

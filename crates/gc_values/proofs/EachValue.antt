@@ -192,13 +192,15 @@ module _ {D : Type 0} (layouts : Layouts) (ids : InternedIds) (raws : List RawVa
     has_slot = record {
       shape = shape;
       declared = declared_here;
-      count = count;
-      slot = slot_here.0;
-      slot_is = slot_here.1;
-      small = (
-          let range = slot_lies layouts new.types.declarations new.heap place now shape count held_now (can.traced place now held_now.held) k slot_here.0 slot_here.1 in
-          let end = held_small layouts new.heap place now heap held_now.held in
-          omega (arith, range.high, reach, end, held_size_is layouts now shape count held_now.has));
+      has = record {
+        count = count;
+        slot = slot_here.0;
+        slot_is = slot_here.1;
+        small = (
+            let range = slot_lies layouts new.types.declarations new.heap place now shape count held_now (can.traced place now held_now.held) k slot_here.0 slot_here.1 in
+            let end = held_small layouts new.heap place now heap held_now.held in
+            omega (arith, range.high, reach, end, held_size_is layouts now shape count held_now.has));
+      };
     }
 
     pub small_index : k < 2 ^ 32

@@ -88,13 +88,15 @@ module _ {D : Type 0} (layouts : Layouts) (v : OwnerView D) (place ty : ℕ) (id
   has_first heap = record {
     shape = shape;
     declared = declared_here;
-    count = n;
-    slot = first;
-    slot_is = first_is;
-    small = (
-        let end = held_small layouts v.heap place object heap f.is.held in
-        let reach = bytes_reach layouts v.types.declarations v.heap place object shape n f.is (can.traced place object f.is.held) in
-        omega (arith, range.high, end, reach, held_size_is layouts object shape n f.is.has));
+    has = record {
+      count = n;
+      slot = first;
+      slot_is = first_is;
+      small = (
+          let end = held_small layouts v.heap place object heap f.is.held in
+          let reach = bytes_reach layouts v.types.declarations v.heap place object shape n f.is (can.traced place object f.is.held) in
+          omega (arith, range.high, end, reach, held_size_is layouts object shape n f.is.has));
+    };
   }
 
   pub first_found : (found : Slot) → FindsSlot layouts v.types.declarations ty 0 found → storage_slot found ≡ first
@@ -166,10 +168,12 @@ module _ {D : Type 0} (layouts : Layouts) (v : OwnerView D) (place ty : ℕ) (bs
   has_byte heap = record {
     shape = shape;
     declared = type_here;
-    count = n;
-    slot = byte_slot 0;
-    slot_is = byte_at 0 some;
-    small = (let end = held_small layouts v.heap place object heap f.is.held in omega (arith, (byte_range 0 some).high, end, reach, held_size_is layouts object shape n f.is.has));
+    has = record {
+      count = n;
+      slot = byte_slot 0;
+      slot_is = byte_at 0 some;
+      small = (let end = held_small layouts v.heap place object heap f.is.held in omega (arith, (byte_range 0 some).high, end, reach, held_size_is layouts object shape n f.is.has));
+    };
   }
 
   pub byte_found : (found : Slot) → FindsSlot layouts v.types.declarations ty 0 found → found.offset ≡ from

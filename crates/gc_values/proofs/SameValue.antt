@@ -157,13 +157,15 @@ module _ {D : Type 0} (layouts : Layouts) (old : OwnerView D) (place : ℕ) (slo
   has_first can heap = record {
     shape = e.shape;
     declared = e.is.declared;
-    count = e.n;
-    slot = element 0;
-    slot_is = element_at 0 e.some;
-    small = (
-        let end = held_small layouts old.heap place e.object heap e.is.held in
-        let reach = bytes_reach layouts old.types.declarations old.heap place e.object e.shape e.n e.is (can.traced place e.object e.is.held) in
-        omega (arith, (range 0 e.some).high, end, reach, held_size_is layouts e.object e.shape e.n e.is.has));
+    has = record {
+      count = e.n;
+      slot = element 0;
+      slot_is = element_at 0 e.some;
+      small = (
+          let end = held_small layouts old.heap place e.object heap e.is.held in
+          let reach = bytes_reach layouts old.types.declarations old.heap place e.object e.shape e.n e.is (can.traced place e.object e.is.held) in
+          omega (arith, (range 0 e.some).high, end, reach, held_size_is layouts e.object e.shape e.n e.is.has));
+    };
   }
 
   module _ (new : OwnerView D) (k : ℕ) (f : FilledTo layouts old new place slot count x e k) (heap : IsHeap layouts new.heap) (can : CanBegin layouts new) where

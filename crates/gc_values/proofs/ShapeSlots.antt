@@ -34,9 +34,12 @@ shape_some part (Some b) y e = refl
 pub shape_found : {X Y : Type 0} (part : X → Y) (found : Option (Bor X)) (b : Bor X) (o : Option Y) → option_map part (option_copied found) ≡ o → found ≡ Some b → o ≡ Some (part b.now)
 shape_found {X} part found b o e is = sym e ∙ ap (λ (x : Option (Bor X)). option_map part (option_copied x)) is
 
--- what equals something is present
-pub is_some_from : {X : Type 0} (o : Option X) (x : X) → o ≡ Some x → IsSome o
-is_some_from o x e = subst IsSome (sym e) refl
+-- what lists fields has no elements
+pub no_elements : (shape : Shape) (fields : List FieldType) → shape_fields shape ≡ Some fields → shape_elem shape ≡ None
+no_elements (struct_of own) fields e = refl
+no_elements (array_of element) fields e = absurd (none-some fields e)
+no_elements (exn_of params) fields e = refl
+no_elements (func_of params results) fields e = absurd (none-some fields e)
 
 -- The slot of a field, by its type and its layout.
 pub record FieldPlaced (base : ℕ) (fields : List FieldType) (index : ℕ) (slot : StorageSlot) : Type 0 where
@@ -114,8 +117,7 @@ element_found layouts (func_of params results) index element is count slot e = a
 module _ (layouts : Layouts) (types : List Declaration) (ty index : ℕ) (shape : Shape) (declared : shape_at types ty ≡ Some shape) where
   pub has_shape_slot : HasStorageSlot layouts types ty index → HasShapeSlot layouts shape index
   has_shape_slot has =
-      subst (λ (s : Shape). HasShapeSlot layouts s index) (same_Some has.shape shape (sym has.declared ∙ declared))
-      (record { count = has.count; slot = has.slot; slot_is = has.slot_is; small = has.small })
+      subst (λ (s : Shape). HasShapeSlot layouts s index) (same_Some has.shape shape (sym has.declared ∙ declared)) has.has
 
   pub finds_slot : (found : Slot) → FindsShapeSlot layouts shape index found → FindsSlot layouts types ty index found
   finds_slot found finds other count slot is e =

@@ -37,22 +37,18 @@ abbrev pub FindsShapeSlot : Layouts → Shape → ℕ → Slot → Type 0
 FindsShapeSlot layouts shape index found =
     (count : ℕ) (slot : StorageSlot) → slice_get (shape_slots layouts shape count) index ≡ Some slot → storage_slot found ≡ slot
 
--- They are the fields of a shape that is no array's, and where they lie.
+-- They are the fields of the shape, which is a struct's or an exception's, and where they lie.
 pub record AreFieldSlots (layouts : Layouts) (shape : Shape) (slots : FieldSlots) : Type 0 where
-  pub no_array : shape_elem shape ≡ None
   pub fields_are : shape_fields shape ≡ Some slots.fields.now
   pub layout : GcStructLayout
   pub layout_is : shape_layout layouts shape ≡ Some layout
-  pub layouts_are : layout.fields ≡ slots.layouts.now
+  pub layouts_are : layout.fields ≡ slots.field_layouts.now
 
--- There is a slot of that index in an object of the type, if it is large enough where it is an array.
+-- The type is declared, and its shape has that slot.
 pub record HasStorageSlot (layouts : Layouts) (types : List Declaration) (ty index : ℕ) : Type 0 where
   pub shape : Shape
   pub declared : shape_at types ty ≡ Some shape
-  pub count : ℕ
-  pub slot : StorageSlot
-  pub slot_is : slice_get (shape_slots layouts shape count) index ≡ Some slot
-  pub small : slot.offset < 2 ^ 32
+  pub has : HasShapeSlot layouts shape index
 
 -- it is that slot
 abbrev pub FindsSlot : Layouts → List Declaration → ℕ → ℕ → Slot → Type 0

@@ -2,7 +2,7 @@
 
 use crate::fill::{fill_each, write_bytes, write_same};
 use crate::interned::{InternedValues, given_values};
-use crate::request::{Contents, NewType, Place};
+use crate::request::{Contents, DeclaredType, Place};
 use crate::root::RawValue;
 use crate::sources::ValueSource;
 use gc_heap::GcHeap;
@@ -37,7 +37,7 @@ pub trait ContentSource {
         shape: &TypeShape,
     )
         requires idle { owner.old.seen.idle ≡ true }
-        requires declared { shape_at owner.old.seen.types.declarations (asked_type request.now) ≡ Some shape.now }
+        requires listed { shape_at owner.old.seen.types.declarations (asked_type request.now) ≡ Some shape.now }
         requires can { CanFill H.KIND owner.old.seen gc_ref.now (asked_type request.now)
             (ContentsFit (ids_of interned.now) request.now (contents self.now)) }
         requires kind { IsOfAskedKind request.now owner.old.seen.heap gc_ref.now }
@@ -61,7 +61,7 @@ impl ContentSource for Contents<'_> {
             Contents::Each(values) => fill_each(owner, interned, gc_ref, request, shape, &values),
             Contents::Same(value) => match *request {
                 Place::Array(index, count) => {
-                    let ty = NewType { index, shape };
+                    let ty = DeclaredType { index, shape };
                     write_same(owner, interned, gc_ref, &ty, count, *value);
                 }
                 Place::Struct(_) => unreachable!(),
@@ -69,7 +69,7 @@ impl ContentSource for Contents<'_> {
             },
             Contents::Bytes(bytes) => match *request {
                 Place::Array(index, _) => {
-                    let ty = NewType { index, shape };
+                    let ty = DeclaredType { index, shape };
                     write_bytes(owner, gc_ref, &ty, bytes);
                 }
                 Place::Struct(_) => unreachable!(),

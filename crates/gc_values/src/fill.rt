@@ -9,7 +9,7 @@ ghost use Rattle.gc_values.specs.Filling.{CanFill, FillsNew, FillsAs, IsOfAskedK
 ghost use Rattle.gc_values.specs.Filling.{asked_type, AreElements, FillsAll, IsWidth};
 
 use crate::interned::InternedValues;
-use crate::request::{NewType, Place};
+use crate::request::{DeclaredType, Place};
 use crate::root::RawValue;
 use crate::slot::{Slot, element_slot, field_slots, slot_at};
 use crate::sources::ValueSource;
@@ -32,12 +32,12 @@ fn write_each_element<H: GcHeap, D: Drop, V: ValueSource>(
     owner: &mut HeapOwner<H, D>,
     interned: &InternedValues,
     gc_ref: &VMGcRef,
-    ty: &NewType<'_>,
+    ty: &DeclaredType<'_>,
     element: &FieldType,
     values: &V,
 )
     requires idle { owner.old.seen.idle ≡ true }
-    requires declared { shape_at owner.old.seen.types.declarations ty.now.index ≡ Some ty.now.shape.now }
+    requires listed { shape_at owner.old.seen.types.declarations ty.now.index ≡ Some ty.now.shape.now }
     requires element { shape_elem ty.now.shape.now ≡ Some element.now }
     requires can { CanFill H.KIND owner.old.seen gc_ref.now ty.now.index (EachFits (ids_of interned.now) (V.given values.now)) }
     ensures { FillsNew H.KIND owner.old.seen owner.new.seen gc_ref.now ty.now.index
@@ -56,11 +56,11 @@ fn write_each_field<H: GcHeap, D: Drop, V: ValueSource>(
     owner: &mut HeapOwner<H, D>,
     interned: &InternedValues,
     gc_ref: &VMGcRef,
-    ty: &NewType<'_>,
+    ty: &DeclaredType<'_>,
     values: &V,
 )
     requires idle { owner.old.seen.idle ≡ true }
-    requires declared { shape_at owner.old.seen.types.declarations ty.now.index ≡ Some ty.now.shape.now }
+    requires listed { shape_at owner.old.seen.types.declarations ty.now.index ≡ Some ty.now.shape.now }
     requires no_array { shape_elem ty.now.shape.now ≡ None }
     requires can { CanFill H.KIND owner.old.seen gc_ref.now ty.now.index (EachFits (ids_of interned.now) (V.given values.now)) }
     ensures { FillsNew H.KIND owner.old.seen owner.new.seen gc_ref.now ty.now.index
@@ -181,12 +181,12 @@ pub(crate) fn write_same<H: GcHeap, D: Drop>(
     owner: &mut HeapOwner<H, D>,
     interned: &InternedValues,
     gc_ref: &VMGcRef,
-    ty: &NewType<'_>,
+    ty: &DeclaredType<'_>,
     count: u32,
     value: RawValue,
 )
     requires idle { owner.old.seen.idle ≡ true }
-    requires declared { shape_at owner.old.seen.types.declarations ty.now.index ≡ Some ty.now.shape.now }
+    requires listed { shape_at owner.old.seen.types.declarations ty.now.index ≡ Some ty.now.shape.now }
     requires can { CanFill H.KIND owner.old.seen gc_ref.now ty.now.index (SameFits (ids_of interned.now) value count) }
     ensures { FillsNew H.KIND owner.old.seen owner.new.seen gc_ref.now ty.now.index
         (SameFits (ids_of interned.now) value count) (SameStands (ids_of interned.now) value) }
@@ -204,11 +204,11 @@ pub(crate) fn write_same<H: GcHeap, D: Drop>(
 pub(crate) fn write_bytes<H: GcHeap, D: Drop>(
     owner: &mut HeapOwner<H, D>,
     gc_ref: &VMGcRef,
-    ty: &NewType<'_>,
+    ty: &DeclaredType<'_>,
     bytes: &[u8],
 )
     requires idle { owner.old.seen.idle ≡ true }
-    requires declared { shape_at owner.old.seen.types.declarations ty.now.index ≡ Some ty.now.shape.now }
+    requires listed { shape_at owner.old.seen.types.declarations ty.now.index ≡ Some ty.now.shape.now }
     requires can { CanFill H.KIND owner.old.seen gc_ref.now ty.now.index (BytesFit bytes.now) }
     ensures { FillsNew H.KIND owner.old.seen owner.new.seen gc_ref.now ty.now.index (BytesFit bytes.now) (BytesStand bytes.now) }
 {
@@ -231,7 +231,7 @@ pub(crate) fn fill_each<H: GcHeap, D: Drop, V: ValueSource>(
     values: &V,
 )
     requires idle { owner.old.seen.idle ≡ true }
-    requires declared { shape_at owner.old.seen.types.declarations (asked_type request.now) ≡ Some shape.now }
+    requires listed { shape_at owner.old.seen.types.declarations (asked_type request.now) ≡ Some shape.now }
     requires can { CanFill H.KIND owner.old.seen gc_ref.now (asked_type request.now) (EachFits (ids_of interned.now) (V.given values.now)) }
     requires kind { IsOfAskedKind request.now owner.old.seen.heap gc_ref.now }
     ensures { FillsAs H.KIND (front_of H.KIND request.now) owner.old.seen owner.new.seen gc_ref.now (asked_type request.now)
@@ -239,17 +239,17 @@ pub(crate) fn fill_each<H: GcHeap, D: Drop, V: ValueSource>(
 {
     match *request {
         Place::Struct(index) => {
-            let ty = NewType { index, shape };
+            let ty = DeclaredType { index, shape };
             write_each_field(owner, interned, gc_ref, &ty, values);
         }
         Place::Array(index, _) => {
-            let ty = NewType { index, shape };
+            let ty = DeclaredType { index, shape };
             let element = shape.elem_type().unwrap();
             write_each_element(owner, interned, gc_ref, &ty, element, values);
         }
         Place::Exn(index, tag) => {
             write_tag(owner, gc_ref, tag);
-            let ty = NewType { index, shape };
+            let ty = DeclaredType { index, shape };
             write_each_field(owner, interned, gc_ref, &ty, values);
         }
     }

@@ -31,7 +31,7 @@ impl Place {
 
 /// The type of a new object: its index, and what it lists.
 #[derive(Clone, Copy)]
-pub(crate) struct NewType<'a> {
+pub(crate) struct DeclaredType<'a> {
     pub(crate) index: VMSharedTypeIndex,
     pub(crate) shape: &'a TypeShape,
 }

@@ -24,7 +24,7 @@ pub struct Slot {
 #[derive(Clone, Copy)]
 pub(crate) struct FieldSlots<'a> {
     fields: &'a [FieldType],
-    layouts: &'a [FieldLayout],
+    field_layouts: &'a [FieldLayout],
 }
 
 impl FieldSlots<'_> {
@@ -36,7 +36,7 @@ impl FieldSlots<'_> {
     {
         Slot {
             storage: self.fields[index as usize].element_type,
-            offset: self.layouts[index as usize].offset,
+            offset: self.field_layouts[index as usize].offset,
         }
     }
 }
@@ -50,7 +50,7 @@ pub(crate) fn field_slots(shape: &TypeShape, layouts: Layouts) -> FieldSlots<'_>
     let layout = shape.struct_layout(layouts).unwrap();
     FieldSlots {
         fields: shape.fields().unwrap(),
-        layouts: layout.fields.as_slice(),
+        field_layouts: layout.fields.as_slice(),
     }
 }
 

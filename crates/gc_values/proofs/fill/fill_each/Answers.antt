@@ -46,17 +46,17 @@ write_each_field-requires-in-Exn-clause-idle g c =
     let can = c.requires.can in
     ap (λ (v : OwnerView g.row.D.Denot). v.idle) (tagged g at can.object can.shape can.count can.to_fill).1.rest ∙ c.requires.idle
 
-pub write_each_field-requires-in-Exn-clause-declared : goal.write_each_field-requires-in-Exn-clause-declared
-write_each_field-requires-in-Exn-clause-declared g c =
-    let at = (goal.at.write_each_field-requires-in-Exn-clause-declared g c).After-write_tag in
+pub write_each_field-requires-in-Exn-clause-listed : goal.write_each_field-requires-in-Exn-clause-listed
+write_each_field-requires-in-Exn-clause-listed g c =
+    let at = (goal.at.write_each_field-requires-in-Exn-clause-listed g c).After-write_tag in
     let can = c.requires.can in
     ap (λ (v : OwnerView g.row.D.Denot). shape_at v.types.declarations c.in-Exn.index) (tagged g at can.object can.shape can.count can.to_fill).1.rest
     ∙ sym (ap (λ (request : Place). shape_at c.args.owner.now.seen.types.declarations (asked_type request)) c.in-Exn.is)
-    ∙ c.requires.declared
+    ∙ c.requires.listed
 
 pub write_each_field-requires-in-Exn-clause-no_array : goal.write_each_field-requires-in-Exn-clause-no_array
 write_each_field-requires-in-Exn-clause-no_array g c =
-    exn_has_none c.requires.can c.args.shape.now c.requires.declared c.in-Exn.index c.in-Exn.tag (subst (λ (request : Place). IsOfAskedKind request c.args.owner.now.seen.heap c.args.gc_ref.now) c.in-Exn.is c.requires.kind)
+    exn_has_none c.requires.can c.args.shape.now c.requires.listed c.in-Exn.index c.in-Exn.tag (subst (λ (request : Place). IsOfAskedKind request c.args.owner.now.seen.heap c.args.gc_ref.now) c.in-Exn.is c.requires.kind)
 
 pub write_each_field-requires-in-Exn-clause-can : goal.write_each_field-requires-in-Exn-clause-can
 write_each_field-requires-in-Exn-clause-can g c =

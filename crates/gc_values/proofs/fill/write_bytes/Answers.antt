@@ -24,14 +24,14 @@ slot_at-first-requires g c =
     let at = (goal.at.slot_at-first-requires g c).After-is_ready in
     let can = c.requires.can in
     subst (λ (k : Layouts). HasShapeSlot k c.args.ty.now.shape.now 0) (sym c.KIND.ensures)
-    (has_shape_slot g.H.GcHeap.KIND c.args.owner.now.seen.types.declarations c.args.ty.now.index 0 c.args.ty.now.shape.now c.requires.declared
+    (has_shape_slot g.H.GcHeap.KIND c.args.owner.now.seen.types.declarations c.args.ty.now.index 0 c.args.ty.now.shape.now c.requires.listed
     (has_byte g.H.GcHeap.KIND c.args.owner.now.seen c.args.gc_ref.now c.args.ty.now.index c.args.bytes.now can.object can.shape can.count can.to_fill (some g at) c.is_ready.ensures.can c.is_ready.ensures.heap))
 
 -- the slot is that of the first element, as any fields are said to be
 offset_is : (g : Over) (c : After-slot_at-first g) (object : HeapObject) (shape : Shape) (n : ℕ) (f : IsToFill g.H.GcHeap.KIND c.args.owner.now.seen c.args.gc_ref.now c.args.ty.now.index (BytesFit c.args.bytes.now) object shape n) → c.slot_at-first.result.offset ≡ f.fit.from
 offset_is g c object shape n f =
     byte_found g.H.GcHeap.KIND c.args.owner.now.seen c.args.gc_ref.now c.args.ty.now.index c.args.bytes.now object shape n f (some g (goal.at.After-slot_at-first g c).After-is_ready) c.is_ready.ensures.can c.slot_at-first.result
-    (finds_slot g.H.GcHeap.KIND c.args.owner.now.seen.types.declarations c.args.ty.now.index 0 c.args.ty.now.shape.now c.requires.declared c.slot_at-first.result
+    (finds_slot g.H.GcHeap.KIND c.args.owner.now.seen.types.declarations c.args.ty.now.index 0 c.args.ty.now.shape.now c.requires.listed c.slot_at-first.result
     (subst (λ (k : Layouts). FindsShapeSlot k c.args.ty.now.shape.now 0 c.slot_at-first.result) c.KIND.ensures c.slot_at-first.ensures))
 
 pub write_number-requires-clause-inside : goal.write_number-requires-clause-inside

@@ -28,11 +28,11 @@ pub overflow_cast-index : goal.overflow_cast-index
 overflow_cast-index g c = let small = next_small (next g (goal.at.overflow_cast-index g c).After-is_ready) in omega (arith, small)
 
 pub element_slot-slot-requires-clause-has : goal.element_slot-slot-requires-clause-has
-element_slot-slot-requires-clause-has g c = next_has (next g (goal.at.element_slot-slot-requires-clause-has g c).After-is_ready) c.KIND.result c.KIND.ensures c.args.ty.now.shape.now c.requires.declared
+element_slot-slot-requires-clause-has g c = next_has (next g (goal.at.element_slot-slot-requires-clause-has g c).After-is_ready) c.KIND.result c.KIND.ensures c.args.ty.now.shape.now c.requires.listed
 
 -- the slot of the index
 finds : (g : Over) (c : After-element_slot-slot g) → FindsSlot g.H.GcHeap.KIND c.loop-index.owner.seen.types.declarations c.args.ty.now.index c.loop-index.index c.element_slot-slot.result
-finds g c = next_found (next g (goal.at.After-element_slot-slot g c).After-is_ready) c.KIND.result c.KIND.ensures c.args.ty.now.shape.now c.requires.declared c.element_slot-slot.result c.element_slot-slot.ensures
+finds g c = next_found (next g (goal.at.After-element_slot-slot g c).After-is_ready) c.KIND.result c.KIND.ensures c.args.ty.now.shape.now c.requires.listed c.element_slot-slot.result c.element_slot-slot.ensures
 
 pub write_at-requires-clause-can : goal.write_at-requires-clause-can
 write_at-requires-clause-can g c =

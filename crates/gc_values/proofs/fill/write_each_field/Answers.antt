@@ -27,17 +27,17 @@ next g c = record {
 
 -- the type has fields
 pub field_slots-slots-requires : goal.field_slots-slots-requires
-field_slots-slots-requires g c = has_fields c.requires.can c.args.ty.now.shape.now c.requires.declared c.requires.no_array
+field_slots-slots-requires g c = has_fields c.requires.can c.args.ty.now.shape.now c.requires.listed c.requires.no_array
 
 pub overflow_cast-index : goal.overflow_cast-index
 overflow_cast-index g c = let small = next_small (next g (goal.at.overflow_cast-index g c).After-is_ready) in omega (arith, small)
 
 pub at-slot-requires : goal.at-slot-requires
-at-slot-requires g c = (c.KIND.result, (c.args.ty.now.shape.now, (c.field_slots-slots.ensures, next_has (next g (goal.at.at-slot-requires g c).After-is_ready) c.KIND.result c.KIND.ensures c.args.ty.now.shape.now c.requires.declared)))
+at-slot-requires g c = (c.KIND.result, (c.args.ty.now.shape.now, (c.field_slots-slots.ensures, next_has (next g (goal.at.at-slot-requires g c).After-is_ready) c.KIND.result c.KIND.ensures c.args.ty.now.shape.now c.requires.listed)))
 
 -- the slot of the index
 finds : (g : Over) (c : After-at-slot g) → FindsSlot g.H.GcHeap.KIND c.loop-index.owner.seen.types.declarations c.args.ty.now.index c.loop-index.index c.at-slot.result
-finds g c = next_found (next g (goal.at.After-at-slot g c).After-is_ready) c.KIND.result c.KIND.ensures c.args.ty.now.shape.now c.requires.declared c.at-slot.result (c.at-slot.ensures c.KIND.result c.args.ty.now.shape.now c.field_slots-slots.ensures)
+finds g c = next_found (next g (goal.at.After-at-slot g c).After-is_ready) c.KIND.result c.KIND.ensures c.args.ty.now.shape.now c.requires.listed c.at-slot.result (c.at-slot.ensures c.KIND.result c.args.ty.now.shape.now c.field_slots-slots.ensures)
 
 pub write_at-requires-clause-can : goal.write_at-requires-clause-can
 write_at-requires-clause-can g c =

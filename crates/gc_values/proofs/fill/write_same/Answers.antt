@@ -29,7 +29,7 @@ pub slot_at-first-requires : goal.slot_at-first-requires
 slot_at-first-requires g c =
     let at = (goal.at.slot_at-first-requires g c).After-is_ready in
     subst (λ (k : Layouts). HasShapeSlot k c.args.ty.now.shape.now 0) (sym c.KIND.ensures)
-    (has_shape_slot g.H.GcHeap.KIND c.args.owner.now.seen.types.declarations c.args.ty.now.index 0 c.args.ty.now.shape.now c.requires.declared (has g at))
+    (has_shape_slot g.H.GcHeap.KIND c.args.owner.now.seen.types.declarations c.args.ty.now.index 0 c.args.ty.now.shape.now c.requires.listed (has g at))
 
 pub stored_value-stored-requires-clause-rising : goal.stored_value-stored-requires-clause-rising
 stored_value-stored-requires-clause-rising g c = subst AreOwnedRising (sym c.owned.ensures) c.requires.can.to_fill.rising
@@ -46,7 +46,7 @@ slot_is : (g : Over) (c : After-stored_value-stored g) (object : HeapObject) (sh
     ≡ first g.H.GcHeap.KIND c.args.owner.now.seen c.args.gc_ref.now c.args.ty.now.index (ids_of c.args.interned.now) c.args.value c.args.count object shape n f (some g (goal.at.After-stored_value-stored g c).After-is_ready) c.is_ready.ensures.can
 slot_is g c object shape n f =
     first_found g.H.GcHeap.KIND c.args.owner.now.seen c.args.gc_ref.now c.args.ty.now.index (ids_of c.args.interned.now) c.args.value c.args.count object shape n f (some g (goal.at.After-stored_value-stored g c).After-is_ready) c.is_ready.ensures.can c.slot_at-first.result
-    (finds_slot g.H.GcHeap.KIND c.args.owner.now.seen.types.declarations c.args.ty.now.index 0 c.args.ty.now.shape.now c.requires.declared c.slot_at-first.result
+    (finds_slot g.H.GcHeap.KIND c.args.owner.now.seen.types.declarations c.args.ty.now.index 0 c.args.ty.now.shape.now c.requires.listed c.slot_at-first.result
     (subst (λ (k : Layouts). FindsShapeSlot k c.args.ty.now.shape.now 0 c.slot_at-first.result) c.KIND.ensures c.slot_at-first.ensures))
 
 kept_is : (g : Over) (c : After-stored_value-stored g) → KeptAs (ids_of c.args.interned.now) (handle_roots c.args.owner.now.seen.roots) c.args.value c.stored_value-stored.result

@@ -1,5 +1,4 @@
 use Rattle.std.proofs.Common.{◌≡◌, ℕ, List, Some, false, sym, ap, ◌∙◌, subst, refl, arith}
-use Rattle.std.specs.Option.{option_copied}
 use Rattle.gc_types.specs.Declarations.{Declaration, elem_at, shape_at}
 use Rattle.gc_types.specs.declared.types.Types.{Types}
 use Rattle.gc_commands.specs.declared.command.Command.TheVariants.{NewArr}

@@ -363,9 +363,9 @@ fill-requires-clause-can g c =
     let err = err_at g at in
     record { object = (new g err).blank; shape = (new g err).shape; count = (new g err).count; to_fill = fills_of g at }
 
-pub fill-requires-clause-declared : goal.fill-requires-clause-declared
-fill-requires-clause-declared g c =
-    let at = (goal.at.fill-requires-clause-declared g c).After-holder_of-holder in
+pub fill-requires-clause-listed : goal.fill-requires-clause-listed
+fill-requires-clause-listed g c =
+    let at = (goal.at.fill-requires-clause-listed g c).After-holder_of-holder in
     ap (λ (ts : TypeTable). shape_at ts.declarations (asked_type c.args.request)) (keeps g (goal.at.After-holder_of-holder g at).In-Ok).types ∙ listed_now g (err_at g at)
 
 pub fill-requires-clause-kind : goal.fill-requires-clause-kind
