@@ -7,7 +7,6 @@ pub mod BarrierLemmas
 pub mod SeenLemmas
 pub mod ReadLemmas
 pub mod ThreadedMemory
-pub mod ZeroLemmas
 pub mod PlacingLemmas
 pub mod FrontLemmas
 pub mod MakeLemmas

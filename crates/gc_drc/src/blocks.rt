@@ -1,8 +1,6 @@
 //! Room for new objects, and what is written for each.
 
-ghost use Rattle.std.specs.Prelude.{◌≡◌, ◌+◌, ◌-◌, ◌≤◌, ◌<◌, length, replicate};
-ghost use Rattle.gc_view.specs.Bytes.{put_bytes};
-ghost use Rattle.gc_memory.specs.Words.{put_u64};
+ghost use Rattle.std.specs.Prelude.{◌≡◌, ◌+◌, ◌-◌, ◌≤◌, ◌<◌, length};
 ghost use Rattle.gc_drc.specs.Layout.{block_of};
 ghost use Rattle.gc_drc.specs.Placing.{CanPlaceAt, WritesCountingBlock, FindsBlock, PlacesBlock};
 ghost use Rattle.gc_drc.specs.Content.{IsSoundSpace};
@@ -29,50 +27,6 @@ pub(crate) fn block_of(size: u32) -> u64
     round_up(u64::from(size))
 }
 
-/// The bytes of two words of 64 bits.
-const PAIR: usize = 16;
-
-/// Up to this size a pair at each end makes the data of an object 0.
-const MOST_BY_TWO_PAIRS: u32 = COUNTING_COUNT + 2 * PAIR as u32;
-
-/// Up to this size two pairs at each end do.
-const MOST_BY_FOUR_PAIRS: u32 = COUNTING_COUNT + 4 * PAIR as u32;
-
-/// Makes the two words at an offset 0.
-#[inline(always)]
-fn zero_pair(memory: &mut HeapMemory, at: usize)
-    requires { at + 16 ≤ length memory.old }
-    ensures { memory.new ≡ put_u64 (put_u64 memory.old at 0) (at + 8) 0 }
-{
-    // The proof learns from it that a memory has at most 2^32 bytes, so that the sum fits.
-    let _pages = memory.pages();
-    memory.write_u64(at, 0);
-    memory.write_u64(at + 8, 0);
-}
-
-/// Makes the bytes of a new object behind its header 0. In a small object by pairs at each end, which may
-/// overlap: a fill of a number of bytes that varies is a call.
-#[inline(always)]
-fn zero_data(memory: &mut HeapMemory, place: u32, size: u32)
-    requires least { 28 ≤ size }
-    requires room { place + size ≤ length memory.old }
-    ensures bytes { memory.new ≡ put_bytes memory.old (place + 8) (replicate (size - 8) 0) }
-{
-    let at = place as usize + COUNTING_COUNT as usize;
-    if size > MOST_BY_FOUR_PAIRS {
-        memory.fill_zero(at, (size - COUNTING_COUNT) as usize);
-        return;
-    }
-    let end = place as usize + size as usize;
-    zero_pair(memory, at);
-    zero_pair(memory, end - PAIR);
-    if size <= MOST_BY_TWO_PAIRS {
-        return;
-    }
-    zero_pair(memory, at + PAIR);
-    zero_pair(memory, end - 2 * PAIR);
-}
-
 /// Writes the words and the zeroed data of a new object of `size` bytes at a place.
 fn write_block(memory: &mut HeapMemory, place: u32, header: VMGcHeader, size: u32)
     requires least { 28 ≤ size }
@@ -80,7 +34,10 @@ fn write_block(memory: &mut HeapMemory, place: u32, header: VMGcHeader, size: u3
     ensures { WritesCountingBlock memory.old memory.new place header size }
 {
     let at = place as usize;
-    zero_data(memory, place, size);
+    memory.fill_zero(
+        at + COUNTING_COUNT as usize,
+        (size - COUNTING_COUNT) as usize,
+    );
     memory.write_header(at, header);
     memory.write_u64(at + COUNTING_COUNT as usize, 1);
     memory.write_u32(at + COUNTING_SIZE as usize, size);

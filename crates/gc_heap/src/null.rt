@@ -177,6 +177,7 @@ impl GcHeap for NullHeap {
 
     fn expose_gc_ref_to_wasm(&mut self, _gc_ref: VMGcRef) {}
 
+    #[inline(always)]
     fn alloc_object(
         &mut self,
         header: VMGcHeader,

@@ -149,13 +149,46 @@ impl HeapMemory {
         self.bytes[at..at + bytes.len()].copy_from_slice(bytes);
     }
 
+    /// Makes N bytes from an offset on 0, as one write.
+    #[inline(always)]
+    fn zero_bytes<const N: usize>(&mut self, at: usize)
+        requires { at + N ≤ length self.old }
+        ensures bytes { self.new ≡ put_bytes self.old at (replicate N 0) }
+        ensures same_length { length self.new ≡ length self.old }
+    {
+        self.bytes[at..at + N].copy_from_slice(&[0; N]);
+    }
+
+    /// Makes a range 0 that N bytes at its front and N at its end cover.
+    #[inline(always)]
+    fn zero_ends<const N: usize>(&mut self, at: usize, count: usize)
+        requires least { N ≤ count }
+        requires most { count ≤ 2 * N }
+        requires room { at + count ≤ length self.old }
+        ensures bytes { self.new ≡ put_bytes self.old at (replicate count 0) }
+        ensures same_length { length self.new ≡ length self.old }
+    {
+        // The proof learns from it that a memory ends below 2^32, so that the sum fits.
+        let _pages = &self.pages;
+        self.zero_bytes::<N>(at);
+        self.zero_bytes::<N>(at + count - N);
+    }
+
     /// Makes `count` bytes from an offset on 0, in time linear in `count`.
+    // A few by a write at each end, which may overlap: a fill of a number of bytes that varies is a call.
+    #[inline(always)]
     pub fn fill_zero(&mut self, at: usize, count: usize)
         requires { at + count ≤ length self.old }
         ensures bytes { self.new ≡ put_bytes self.old at (replicate count 0) }
         ensures same_length { length self.new ≡ length self.old }
     {
-        self.bytes[at..at + count].fill(0);
+        match count {
+            4..=8 => self.zero_ends::<4>(at, count),
+            9..=16 => self.zero_ends::<8>(at, count),
+            17..=32 => self.zero_ends::<16>(at, count),
+            33..=64 => self.zero_ends::<32>(at, count),
+            _ => self.bytes[at..at + count].fill(0),
+        }
     }
 
     /// Copies `count` bytes to another place, also where the two overlap, in time linear in `count`.
