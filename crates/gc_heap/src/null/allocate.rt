@@ -19,6 +19,7 @@ use gc_types::Layouts;
 
 /// Writes the data of a new object of `size` bytes at a place: its first word where that is told, and
 /// zeros.
+#[inline(always)]
 fn write_data(memory: &mut HeapMemory, place: u32, size: u32, word: Option<u32>)
     requires word { bump_word_end word ≤ size }
     requires room { place + size ≤ length memory.old }
@@ -37,6 +38,7 @@ fn write_data(memory: &mut HeapMemory, place: u32, size: u32, word: Option<u32>)
 }
 
 /// Writes a new object of `size` bytes at a place.
+#[inline(always)]
 fn write_object(
     memory: &mut HeapMemory,
     place: u32,
@@ -58,6 +60,7 @@ fn write_object(
 }
 
 /// Allocates an object behind those of a memory, in the time that it takes to make it 0.
+#[inline(always)]
 fn allocate_in(
     memory: &mut HeapMemory,
     next: &mut u32,
@@ -94,6 +97,7 @@ impl NullHeap {
     /// Allocates an object of `size` bytes with that header, and with that first word of data where
     /// it is told; the other bytes of its data are 0. The inner Err is the number of bytes that the
     /// memory would have to grow by.
+    #[inline(always)]
     pub(super) fn allocate(
         &mut self,
         header: VMGcHeader,
