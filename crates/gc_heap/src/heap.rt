@@ -286,6 +286,7 @@ pub trait GcHeap {
     }
 
     /// Allocates a struct or an exception, whose data is 0.
+    #[inline(always)]
     final fn alloc_uninit_struct_or_exn(
         &mut self,
         ty: VMSharedTypeIndex,
