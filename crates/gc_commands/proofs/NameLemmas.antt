@@ -1,5 +1,9 @@
 -- Words that are no form's name.
-use Rattle.std.proofs.Common.{◌≡◌, ℕ, List, length, codes, ap, arith}
+use Rattle.std.proofs.Common.{◌≡◌, ◌==◌, ℕ, ◌+◌, ◌<◌, List, [], ◌∷◌, length, min, codes, get_or, take, drop, sym, ap, ◌∙◌, arith, ◌≤◌, ◌⊎◌, inl, inr, None, Some, length-take, position}
+use Rattle.std.specs.List.{slice_split}
+use Rattle.std.proofs.lemmas.Bool.{cases_lt}
+use Rattle.std.proofs.lemmas.List.{take_all}
+use Rattle.gc_commands.proofs.WordLemmas.{first_word, no_space_found, no_space_in_front, space_in_front}
 use Rattle.gc_commands.specs.declared.form.Form.{Form}
 use Rattle.gc_commands.specs.declared.form.Form.TheVariants as form
 use Rattle.gc_commands.specs.Forms.{name_of}
@@ -96,3 +100,37 @@ none_of_others word a b c d f form.GcDrop u e = f (ap length e)
 none_of_others word a b c d f form.GcInc u e = d (ap length e)
 none_of_others word a b c d f form.Grow u e = c (ap length e)
 none_of_others word a b c d f form.Cap u e = b (ap length e)
+
+-- a name has at most six letters
+name_is_short : (f : Form) → length (name_of f) < 7
+name_is_short form.Struct = omega arith
+name_is_short f = omega arith
+
+-- as many bytes as a name and a space may have
+front_of_seven : (line : List ℕ) (n : ℕ) → n ≡ min (length line) 7 → take 7 line ≡ take n line
+front_of_seven line n cut = go (cases_lt 7 (length line))
+  where
+    go : (7 < length line) ⊎ (length line ≤ 7) → take 7 line ≡ take n line
+    go (inl long) = let same : 7 ≡ n = omega (arith, cut, long) in ap (λ m. take m line) same
+    go (inr short) = take_all 7 line short ∙ sym (take_all n line (omega (arith, cut, short)))
+
+module _ (line name : List ℕ) (n : ℕ) (cut : n ≡ min (length line) 7) where
+  -- a name that a space ends
+  pub named_by_space : (k : ℕ) (words : List (List ℕ)) (f : Form) → position (λ b. b == 32) (take n line) ≡ Some k → name ≡ take k line → words ≡ slice_split (λ b. b == 32) (drop (k + 1) line) → name ≡ name_of f
+      → slice_split (λ b. b == 32) line ≡ name_of f ∷ words
+  named_by_space k words f found front rest same =
+      first_word line k (space_in_front n line k found) ∙ ap (λ w. w ∷ slice_split (λ b. b == 32) (drop (k + 1) line)) (sym front ∙ same) ∙ ap (λ ws. name_of f ∷ ws) (sym rest)
+
+  -- a name that is the whole line
+  pub named_whole : (f : Form) → position (λ b. b == 32) (take n line) ≡ None → name ≡ take n line → name ≡ name_of f → slice_split (λ b. b == 32) line ≡ name_of f ∷ []
+  named_whole f none front same =
+      let whole : take n line ≡ line = take_all n line (omega (arith, cut, length-take n line, ap length front, ap length same, name_is_short f)) in
+      no_space_found line (ap (position (λ b. b == 32)) (sym whole) ∙ none) ∙ ap (λ w. w ∷ []) (sym whole ∙ sym front ∙ same)
+
+  -- where what a space ends is no name, the line has none
+  pub unnamed_by_space : (k : ℕ) → position (λ b. b == 32) (take n line) ≡ Some k → name ≡ take k line → ((f : Form) → Unit {0} → name ≡ name_of f → ⊥) → (f : Form) (rest : List (List ℕ)) → slice_split (λ b. b == 32) line ≡ name_of f ∷ rest → ⊥
+  unnamed_by_space k found front none f rest words = none f tt (front ∙ ap (λ (ws : List (List ℕ)). get_or ws 0 []) (sym (first_word line k (space_in_front n line k found)) ∙ words))
+
+  -- where a front without a space is no name, the line has none
+  pub unnamed_whole : position (λ b. b == 32) (take n line) ≡ None → name ≡ take n line → ((f : Form) → Unit {0} → name ≡ name_of f → ⊥) → (f : Form) (rest : List (List ℕ)) → slice_split (λ b. b == 32) line ≡ name_of f ∷ rest → ⊥
+  unnamed_whole unfound front none f rest words = none f tt (front ∙ sym (no_space_in_front 7 line (name_of f) rest (ap (λ (bytes : List ℕ). position (λ b. b == 32) bytes) (front_of_seven line n cut) ∙ unfound) words (name_is_short f) ∙ front_of_seven line n cut))

@@ -78,10 +78,8 @@ no_elem words rest front is none =
     (λ x fits e. none x.2 fits.1 (is.only x.0 x.1 (field_text x.2 ∷ []) fits.0 (field_behind x.2 []) e).2)
 
 -- a first word that is no name
-pub no_name : (words : List (List ℕ)) (word : List ℕ) (rest : List (List ℕ)) → words ≡ word ∷ rest → ((f : Form) → Unit {0} → word ≡ name_of f → ⊥) → (c : Command) → FitsCommand c → words ≡ words_of c → ⊥
-no_name words word rest at none c fits e =
-    let of = has_form c fits in
-    none of.0 tt (ap (λ (ws : List (List ℕ)). get_or ws 0 []) (sym at ∙ e ∙ words_by_form of.0 c of.1))
+pub no_name : (words : List (List ℕ)) → ((f : Form) (rest : List (List ℕ)) → words ≡ name_of f ∷ rest → ⊥) → (c : Command) → FitsCommand c → words ≡ words_of c → ⊥
+no_name words none c fits e = let of = has_form c fits in none of.0 _ (e ∙ words_by_form of.0 c of.1)
 
 none_named : (f g : Form) (words rest : List (List ℕ)) → words ≡ name_of f ∷ rest → ((c : Command) → IsOfForm f c → rest ≡ operands_of c → ⊥) → (c : Command) → FitsCommand c → command_form c ≡ Some g → words ≡ words_of c → ⊥
 none_named f g words rest at none c fits form e =

@@ -1,8 +1,12 @@
 //! The forms of commands, which their first words tell apart.
 
-ghost use Rattle.std.specs.Prelude.{◌≡◌, length};
+ghost use Rattle.std.specs.Prelude.{◌≡◌, ◌==◌, ℕ, List, [], ◌∷◌, MatchOption, length};
+ghost use Rattle.std.specs.List.{slice_split};
+ghost use Rattle.std.specs.Option.{option_map_or};
 ghost use Rattle.gc_commands.specs.Forms.{name_of};
 ghost use Rattle.gc_commands.specs.Reading.{Reads};
+
+use crate::words::first_space;
 
 /// A form of command. Each has a first word of its own; `Bytes` is the form of two commands, which the
 /// words behind it tell apart.
@@ -43,6 +47,24 @@ pub enum Form {
     GcInc,
     Grow,
     Cap,
+}
+
+/// No form has a first word of more bytes.
+const MAX_NAME: usize = 6;
+
+/// The form that a line's first word names, and what stands behind the space that ends the word, where one does. No more of a
+/// line is looked at than a name and a space may have.
+#[inline(always)]
+pub(crate) fn cut_form(line: &[u8]) -> Option<(Form, Option<&[u8]>)>
+    ensures { MatchOption result ((form : Form) (rest : List (List ℕ)) → ¬ (slice_split (λ b. b == 32) line.now ≡ name_of form ∷ rest))
+        (λ cut. slice_split (λ b. b == 32) line.now ≡ name_of cut.0 ∷ option_map_or (λ rest. slice_split (λ b. b == 32) rest.now) cut.1 []) }
+{
+    let front = &line[..line.len().min(MAX_NAME + 1)];
+    let (name, behind) = match first_space(front) {
+        Some(at) => (&line[..at], Some(&line[at + 1..])),
+        None => (front, None),
+    };
+    Some((form_of(name)?, behind))
 }
 
 /// The form that has this first word. A word is compared with those of its own length alone.

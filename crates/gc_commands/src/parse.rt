@@ -12,14 +12,14 @@ ghost use Rattle.gc_commands.specs.Spelling.{FitsCommand, IsCommandOf, IsOfForm,
 
 use crate::command::{Command, Operands};
 use crate::declarations::{read_array, read_exn, read_struct};
-use crate::form::{Form, form_of};
+use crate::form::{Form, cut_form};
 use crate::objects::{read_bytes, read_fixed, read_new, read_new_arr, read_new_exn};
 use crate::plain::{
     read_alone, read_elem, read_eq, read_field, read_get_global, read_grow, read_host,
     read_host_number, read_i31, read_len, read_load, read_own, read_push, read_root, read_set_elem,
     read_set_field, read_set_global, read_store, read_take, read_throw, read_unroot,
 };
-use crate::words::{Words, cut_word};
+use crate::words::Words;
 use std::alloc::{AllocError, Global};
 
 /// A line may have this many bytes without its line feed.
@@ -48,8 +48,7 @@ pub fn parse_line_into(
     if line.len() > MAX_LINE {
         return Ok(Command::Bad);
     }
-    let (name, behind) = cut_word(line);
-    let Some(form) = form_of(name) else {
+    let Some((form, behind)) = cut_form(line) else {
         return Ok(Command::Bad);
     };
     read_form(alloc, room, form, &mut Words::behind_name(behind))

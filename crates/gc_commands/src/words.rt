@@ -87,7 +87,7 @@ pub fn behind<'a>(word: &'a [u8], front: &[u8]) -> Option<&'a [u8]>
 
 /// Where the first space stands.
 #[inline(always)]
-fn first_space(bytes: &[u8]) -> Option<usize>
+pub(crate) fn first_space(bytes: &[u8]) -> Option<usize>
     ensures { result ≡ position (λ b. b == 32) bytes.now }
 {
     bytes.iter().position(|byte| *byte == b' ')
