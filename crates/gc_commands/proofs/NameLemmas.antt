@@ -1,4 +1,4 @@
--- Words that are no form's name.
+-- Which words are a form's name, and what a line whose front has no such name begins with.
 use Rattle.std.proofs.Common.{◌≡◌, ◌==◌, ℕ, ◌+◌, ◌<◌, List, [], ◌∷◌, length, min, codes, get_or, take, drop, sym, ap, ◌∙◌, arith, ◌≤◌, ◌⊎◌, inl, inr, None, Some, length-take, position}
 use Rattle.std.specs.List.{slice_split}
 use Rattle.std.proofs.lemmas.Bool.{cases_lt}

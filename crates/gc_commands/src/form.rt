@@ -69,7 +69,7 @@ pub(crate) fn cut_form(line: &[u8]) -> Option<(Form, Option<&[u8]>)>
 
 /// The form that has this first word. A word is compared with those of its own length alone.
 #[inline(always)]
-pub(crate) fn form_of(word: &[u8]) -> Option<Form>
+fn form_of(word: &[u8]) -> Option<Form>
     ensures { Reads (λ f. Unit {0}) name_of word.now result }
 {
     match word.len() {

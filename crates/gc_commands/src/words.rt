@@ -68,7 +68,7 @@ impl<'a> Words<'a> {
 
 /// The first word of a line, and what stands behind the space that ends it; None where no space does.
 #[inline(always)]
-pub(crate) fn cut_word(line: &[u8]) -> (&[u8], Option<&[u8]>)
+fn cut_word(line: &[u8]) -> (&[u8], Option<&[u8]>)
     ensures { slice_split (λ b. b == 32) line.now ≡ result.0.now ∷ option_map_or (λ rest. slice_split (λ b. b == 32) rest.now) result.1 [] }
 {
     match first_space(line) {
