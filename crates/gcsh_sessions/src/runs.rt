@@ -17,7 +17,9 @@ pub(crate) fn run_top<S: Source, K: Sink>(
 ) -> Result<u8, AllocError> {
     let words = words_of(alloc, words)?;
     let mut stores = Stores::new(alloc)?;
-    Ok(gcsh_top(alloc, words.as_slice(), source, sink, &mut stores))
+    let status = gcsh_top(alloc, words.as_slice(), source, sink, &mut stores);
+    drop(stores);
+    Ok(status)
 }
 
 /// A source of a script, whose reads fail where the header says.

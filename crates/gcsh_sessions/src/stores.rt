@@ -174,7 +174,9 @@ fn run_over<H: GcHeap + Drop, L: ResourceLimiter>(
     requires empty { H.seen heap ≡ detached }
 {
     let mut store = Store::new(alloc, STORE, heap, new.config)?;
-    run_prepared(alloc, &mut store, new, limiter, script, out)
+    let ran = run_prepared(alloc, &mut store, new, limiter, script, out);
+    drop(store);
+    ran
 }
 
 /// Lets the heap grow by a byte, starts a collection, and drops it after so many increments.

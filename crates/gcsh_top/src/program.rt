@@ -53,7 +53,7 @@ failed; 3 the output failed; 4 the input is over 16777216 bytes; 5 no memory.
 ";
 
 /// What `--version` shows.
-pub const VERSION: &str = concat!("gcsh ", "0.9.2", "\n");
+pub const VERSION: &str = concat!("gcsh ", "0.9.3", "\n");
 
 /// The status that the program ends with. [`gcsh_main`] alone makes one, and none can be dropped, so a `main`
 /// that returns one ends with what `gcsh_main` answered.
@@ -180,7 +180,11 @@ fn run_on_new<S: Source, K: Sink>(
         (record { before = K.tells sink.old; after = K.tells sink.new }) result }
 {
     match Stores::new(alloc) {
-        Ok(mut stores) => run_words(alloc, words, source, sink, &mut stores),
+        Ok(mut stores) => {
+            let status = run_words(alloc, words, source, sink, &mut stores);
+            drop(stores);
+            status
+        }
         Err(_) => Status::NoMemory,
     }
 }

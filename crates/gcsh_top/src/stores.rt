@@ -32,10 +32,21 @@ impl Stores {
         ) else {
             unreachable!()
         };
+        // What was made is given up by `drop`, which is proved for any type: at the end of a scope the proof here would go
+        // through all that a store consists of.
+        let copying = Store::new(alloc, first, CopyingHeap::new(alloc), config)?;
+        let Ok(counting) = Store::new(alloc, second, DrcHeap::new(alloc), config) else {
+            drop(copying);
+            return Err(AllocError);
+        };
+        let Ok(null) = Store::new(alloc, third, NullHeap::new(alloc), config) else {
+            drop((copying, counting));
+            return Err(AllocError);
+        };
         Ok(Stores {
-            copying: Store::new(alloc, first, CopyingHeap::new(alloc), config)?,
-            counting: Store::new(alloc, second, DrcHeap::new(alloc), config)?,
-            null: Store::new(alloc, third, NullHeap::new(alloc), config)?,
+            copying,
+            counting,
+            null,
         })
     }
 }

@@ -17,6 +17,7 @@ use gc_types::{Types, VMSharedTypeIndex};
 use heap_client::collections::{Kept, run_collections};
 use heap_client::scope::{Scoped, run_scope};
 use std::alloc::{AllocError, Global};
+use std::mem;
 
 /// A heap of each kind, each with its roots, types and host values.
 #[derive(Drop)]
@@ -169,7 +170,7 @@ impl Heaps {
 
     /// Begins new heaps of so many pages.
     fn begin(&mut self, alloc: Global, pages: u32, out: &mut String) -> Result<(), CaseFault> {
-        *self = Heaps::new(alloc, pages)?;
+        drop(mem::replace(self, Heaps::new(alloc, pages)?));
         Ok(out.push_str("begun")?)
     }
 

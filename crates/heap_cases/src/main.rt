@@ -78,7 +78,9 @@ fn answer_line(
 /// Adds each case of a text with what new heaps of a page answer.
 fn answer_text(alloc: Global, text: &str, out: &mut String) -> Result<(), CaseFault> {
     let mut heaps = Heaps::new(alloc, 1)?;
-    answer_lines(alloc, &mut heaps, text, out)
+    let answered = answer_lines(alloc, &mut heaps, text, out);
+    drop(heaps);
+    answered
 }
 
 /// Each case of a text with what new heaps answer.

@@ -241,7 +241,9 @@ fn run_over<H: GcHeap + Drop>(
     requires empty { H.seen heap ≡ detached }
 {
     let mut store = Store::new(alloc, STORE, heap, config)?;
-    Ok(run_part(page, alloc, &mut store, part)?)
+    let ran = run_part(page, alloc, &mut store, part);
+    drop(store);
+    Ok(ran?)
 }
 
 /// Runs a pair on two new stores.
@@ -261,6 +263,25 @@ fn run_pair<H: GcHeap>(
     }
 }
 
+/// Runs a pair on this store and a new one over that heap.
+fn pair_with<H: GcHeap + Drop>(
+    page: &mut Page,
+    alloc: Global,
+    config: HeapConfig,
+    store: &mut Store<H, u64>,
+    heap: H,
+    pair: Pair,
+) -> Result<(), RunFault>
+    requires store { store.old.number ≡ 0 }
+    requires sound { H.sound heap }
+    requires empty { H.seen heap ≡ detached }
+{
+    let mut other = Store::new(alloc, OTHER, heap, config)?;
+    let ran = run_pair(page, alloc, store, &mut other, pair);
+    drop(other);
+    Ok(ran?)
+}
+
 /// Runs a pair on two new stores over these heaps.
 fn pair_over<H: GcHeap + Drop>(
     page: &mut Page,
@@ -276,8 +297,9 @@ fn pair_over<H: GcHeap + Drop>(
     requires other_empty { H.seen other_heap ≡ detached }
 {
     let mut store = Store::new(alloc, STORE, heap, config)?;
-    let mut other = Store::new(alloc, OTHER, other_heap, config)?;
-    Ok(run_pair(page, alloc, &mut store, &mut other, pair)?)
+    let ran = pair_with(page, alloc, config, &mut store, other_heap, pair);
+    drop(store);
+    ran
 }
 
 /// Runs a part on a store over a heap of that kind.

@@ -98,6 +98,23 @@ fn run_cases<H: GcHeap>(
     Ok(())
 }
 
+/// Runs all cases on a store, with a new one over that heap.
+fn run_beside<H: GcHeap + Drop>(
+    alloc: Global,
+    config: HeapConfig,
+    heap: H,
+    store: &mut Store<H, u64>,
+    page: &mut Page,
+) -> Result<(), CaseFault>
+    requires sound { H.sound heap }
+    requires empty { H.seen heap ≡ detached }
+{
+    let mut stranger = Store::new(alloc, STRANGER, heap, config)?;
+    let ran = run_cases(alloc, store, &mut stranger, page);
+    drop(stranger);
+    ran
+}
+
 /// Runs all cases over these heaps.
 fn run_over<H: GcHeap + Drop>(
     alloc: Global,
@@ -111,9 +128,10 @@ fn run_over<H: GcHeap + Drop>(
     requires other_sound { H.sound other }
     requires other_empty { H.seen other ≡ detached }
 {
-    let mut stranger = Store::new(alloc, STRANGER, other, config)?;
     let mut store = Store::new(alloc, STORE, heap, config)?;
-    run_cases(alloc, &mut store, &mut stranger, page)
+    let ran = run_beside(alloc, config, other, &mut store, page);
+    drop(store);
+    ran
 }
 
 /// Runs all cases over heaps of each kind.
