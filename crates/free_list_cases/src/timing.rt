@@ -142,21 +142,35 @@ fn time_walk(clock: &impl Clock, list: &FreeList, runs: u32) -> Result<u64, Case
     Ok(nanos_between(start, end))
 }
 
+/// Measures each call, on a list whose current run is used up and on one that has its own.
+fn measure_on(
+    clock: &impl Clock,
+    used_up: &mut FreeList,
+    list: &mut FreeList,
+    runs: u32,
+) -> Result<Report, CaseFault>
+    requires { 0 < runs }
+{
+    let walk = time_walk(clock, used_up, runs)?;
+    Ok(Report {
+        runs,
+        lowest: time_pairs(clock, used_up, 100)?,
+        current: time_pairs(clock, list, 100)?,
+        run_at: time_run_at(clock, list, runs, 1000)?,
+        add_capacity: time_add_capacity(clock, list, 1000)?,
+        walk,
+    })
+}
+
 /// Measures each call at so many free runs.
 fn measure(clock: &impl Clock, alloc: Global, runs: u32) -> Result<Report, CaseFault>
     requires { 0 < runs }
 {
     let mut used_up = spread(alloc, runs, 0)?;
     let mut list = spread(alloc, runs, 4096)?;
-    let walk = time_walk(clock, &used_up, runs)?;
-    Ok(Report {
-        runs,
-        lowest: time_pairs(clock, &mut used_up, 100)?,
-        current: time_pairs(clock, &mut list, 100)?,
-        run_at: time_run_at(clock, &list, runs, 1000)?,
-        add_capacity: time_add_capacity(clock, &mut list, 1000)?,
-        walk,
-    })
+    let report = measure_on(clock, &mut used_up, &mut list, runs);
+    drop((used_up, list));
+    report
 }
 
 /// Shows what was measured at 10, 1,000 and 100,000 free runs.

@@ -83,7 +83,9 @@ impl Outcome {
     {
         let (types, named) = Named::declare(alloc)?;
         let mut mutator = Mutator::new(alloc, heap, types, case.pages())?;
-        Ok(Outcome::by(&mut mutator, &named, case)?)
+        let outcome = Outcome::by(&mut mutator, &named, case);
+        drop(mutator);
+        Ok(outcome?)
     }
 
     /// Runs a case on a heap in which nothing is.

@@ -94,7 +94,10 @@ fn run_beside<H: GcHeap + Drop>(
     requires empty { H.seen other_heap ≡ detached }
 {
     match Store::new(alloc, STRANGER, other_heap, config) {
-        Ok(mut stranger) => run_calls(page, store, &mut stranger),
+        Ok(mut stranger) => {
+            run_calls(page, store, &mut stranger);
+            drop(stranger);
+        }
         Err(fault) => page.stop(fault.into()),
     }
 }
@@ -113,7 +116,10 @@ fn run_over<H: GcHeap + Drop>(
     requires other_empty { H.seen other_heap ≡ detached }
 {
     match Store::new(alloc, STORE, heap, config) {
-        Ok(mut store) => run_beside(page, alloc, &mut store, other_heap, config),
+        Ok(mut store) => {
+            run_beside(page, alloc, &mut store, other_heap, config);
+            drop(store);
+        }
         Err(fault) => page.stop(fault.into()),
     }
 }

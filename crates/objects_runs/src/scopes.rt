@@ -55,6 +55,7 @@ pub(crate) fn run_scopes(page: &mut Page, alloc: Global) {
         Ok(mut store) => {
             fill_scope(page, &mut store);
             fill_scope(page, &mut store);
+            drop(store);
         }
         Err(fault) => page.stop(fault.into()),
     }

@@ -150,7 +150,10 @@ fn run_over<H: GcHeap + Drop>(page: &mut Page, alloc: Global, heap: H, part: Par
         return page.stop(RunFault::NoConfiguration);
     };
     match Store::<H, u64>::new(alloc, STORE, heap, config) {
-        Ok(mut store) => run_part(page, alloc, &mut store, part),
+        Ok(mut store) => {
+            run_part(page, alloc, &mut store, part);
+            drop(store);
+        }
         Err(fault) => page.stop(fault.into()),
     }
 }
