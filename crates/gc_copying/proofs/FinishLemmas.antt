@@ -8,7 +8,8 @@ use Rattle.gc_memory.proofs.ListLemmas.{occ-same, occ-other, In-occ, occ-none}
 use Rattle.gc_roots.specs.Roots.{Root, root_at}
 use Rattle.gc_heap.specs.Collection.{moved}
 use Rattle.gc_copying.specs.CopyWords.{forwarding, IsCopyingPlace, copying_offsets_at}
-use Rattle.gc_copying.specs.CopyStart.{From, refs, CopyingReached, by_root, by_field}
+use Rattle.gc_view.specs.Reach.{by_start, by_step}
+use Rattle.gc_copying.specs.CopyStart.{From, refs, CopyingReached}
 use Rattle.gc_copying.specs.CopyMiddle.{IsCopiedTo, Moves, Mid}
 use Rattle.gc_copying.specs.CopySteps.{RootsMoved, words_of_roots}
 use Rattle.gc_copying.proofs.MidLemmas.{lies, new_lies}
@@ -76,12 +77,12 @@ module _ (s : From) (m : List ℕ) (base bump limit count : ℕ) (mid : Mid s m 
 
   -- what is reached was copied
   pub complete : (rs roots : List Root) → s.roots ≡ words_of_roots rs → RootsMoved s m rs roots → (p : ℕ) → CopyingReached s p → IsCopiedTo s m p (forwarding m p)
-  complete rs roots roots_are roots_moved p (by_root i j) =
+  complete rs roots roots_are roots_moved p (by_start (i, j)) =
       let b = word_from rs p (subst (λ l. In p l) roots_are j) in
       let root = (roots_moved.moved b.0 b.1.0).word in
       let leads : IsCopiedTo s m p (root_at roots b.0).word = subst (λ (x : ℕ). IsCopiedTo s m x (root_at roots b.0).word) b.1.1 (root.leads (subst (λ (x : ℕ). IsCopyingPlace x) (sym b.1.1) (place_word_of p i))) in
       record { place = leads.place; flagged = leads.flagged; to = refl }
-  complete rs roots roots_are roots_moved p (by_field i {from = from} r o j is) =
+  complete rs roots roots_are roots_moved p (by_step {y = from} r (i, (o, (j, is)))) =
       let before = complete rs roots roots_are roots_moved from r in
       let moves = all_moved from (forwarding m from) o before j in
       let leads = moves.leads (subst (λ (x : ℕ). IsCopyingPlace x) (sym is) (place_word_of p i)) in

@@ -7,7 +7,8 @@ use Rattle.gc_memory.specs.Lists.{In, here, there}
 use Rattle.gc_roots.specs.Roots.{Root, root_at, no_root, with_word, with_word_at}
 use Rattle.gc_heap.specs.Collection.{present_words}
 use Rattle.gc_copying.specs.declared.space.Space.{Space}
-use Rattle.gc_copying.specs.CopyStart.{From, by_root}
+use Rattle.gc_view.specs.Reach.{by_start}
+use Rattle.gc_copying.specs.CopyStart.{From}
 use Rattle.gc_copying.specs.CopyMiddle.{Moves, Later}
 use Rattle.gc_copying.specs.CopySteps.{Midway, Known, CanForward, Forwards, IsMovedRoot, words_of_roots, CanForwardRoots, ForwardsRoots}
 use Rattle.gc_copying.proofs.MidLemmas.{new_lies, moves_later}
@@ -24,7 +25,7 @@ pub known_root : (s : From) (t : ℕ) (h : Space) (rs : List Root) (i w : ℕ) �
 known_root s t h rs i w roots mid less is place =
     let inside : In w s.roots = subst (λ l. In w l) (sym roots) (subst (λ (x : ℕ). In x (words_of_roots rs)) (sym is) (word_in rs i less)) in
     let at = place_of_word s w (mid.start.roots w inside) place in
-    (at, by_root at inside)
+    (at, by_start (at, inside))
 
 -- what a word that isn't null became isn't null
 pub moved_not_null : (s : From) (t : ℕ) (old new : Space) (w w' : ℕ) → 0 < w → Forwards s t old new w w' → w' ≡ 0 → ⊥

@@ -10,7 +10,8 @@ use Rattle.gc_copying.specs.declared.space.Space.{Space}
 use Rattle.gc_copying.specs.Spaces.{half_first, half_end}
 use Rattle.gc_copying.specs.CopyWords.{IsCopyingPlace}
 use Rattle.gc_heap.specs.References.{Spaced}
-use Rattle.gc_copying.specs.CopyStart.{From, IsCopyingWord, refs, by_field}
+use Rattle.gc_view.specs.Reach.{by_step}
+use Rattle.gc_copying.specs.CopyStart.{From, IsCopyingWord, refs}
 use Rattle.gc_copying.specs.CopyMiddle.{IsCopiedTo, Moves}
 use Rattle.gc_copying.specs.CopySteps.{Midway, Known, SameSides, Forwards, Scanning, CanScanCopy, CanScanAt, Scans, ScansAll}
 use Rattle.gc_copying.proofs.MoreBytes.{wrote_word, word_written}
@@ -47,7 +48,7 @@ known_field s p q u o left h w scan read place =
     let is : w ≡ word s.memory (p + o) = read ∙ sym (word-is h.memory (q + o)) ∙ field_as_old s p q u o left h scan in
     let word_is : IsCopyingWord s w = subst (λ (x : ℕ). IsCopyingWord s x) (sym is) (scan.mid.start.fields p o scan.leads.place (scan.part o here)) in
     let i = place_of_word s w word_is place in
-    (i, by_field i (scan.mid.copied p q scan.leads).reached o (scan.part o here) (sym is))
+    (i, by_step (scan.mid.copied p q scan.leads).reached (i, (o, (scan.part o here, sym is))))
 
 -- the other references are moved, or lie behind
 done_before : (u hi o : ℕ) (left : List ℕ) (o1 : ℕ) → Spaced u hi (o ∷ left) → (o1 + 4 ≤ u) ⊎ In o1 (o ∷ left) → (o1 + 4 ≤ u) ⊎ (o ≤ o1)

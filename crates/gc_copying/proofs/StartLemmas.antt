@@ -27,6 +27,7 @@ use Rattle.gc_copying.specs.HeapLaws.{nothing, sixteen, skips, half_lies, first_
 use Rattle.gc_copying.specs.CopyWords.{copying_offsets_at, IsCopyingExternal}
 use Rattle.gc_copying.specs.CopyStart.{From, IsFrom, IsCopyingWord, ListsExternals}
 use Rattle.gc_copying.specs.CopyStart as start
+use Rattle.gc_view.specs.Reach as reach
 use Rattle.gc_copying.specs.CopySteps.{words_of_roots}
 use Rattle.gc_copying.specs.CopyBetween.{start_in_bytes, CopyingBeginsIn}
 use Rattle.gc_heap.proofs.SpacedLemmas.{Spaced-in}
@@ -184,18 +185,18 @@ module _ (s : Start) (m : List ℕ) (upper : Bool) (bump head objects scopes : �
 
   -- what is reached, in objects and in bytes
   pub reached_so : (p : ℕ) → content.ReachedPlace Copying s p → start.CopyingReached from p
-  reached_so p (content.by_root h r c e) = start.by_root (held_place p h) (subst (λ w. In w (words_of_roots s.roots)) e (word_of_root s.roots r c))
+  reached_so p (content.by_root h r c e) = reach.by_start (held_place p h, subst (λ w. In w (words_of_roots s.roots)) e (word_of_root s.roots r c))
   reached_so p (content.by_field h {from = q} r o got c) =
       let f = found q o got in
       let n = named_by q p f.among (subst (λ (x : HeapObject). Contains (references Copying s.types x) p) f.is c) in
-      start.by_field (held_place p h) (reached_so q r) n.0 n.1.0 n.1.1
+      reach.by_step (reached_so q r) (held_place p h, (n.0, (n.1.0, n.1.1)))
 
   pub reached_in : (p : ℕ) → start.CopyingReached from p → In p (places_in m upper bump)
-  reached_in p (start.by_root i j) = i
-  reached_in p (start.by_field i r o j e) = i
+  reached_in p (reach.by_start (i, j)) = i
+  reached_in p (reach.by_step r (i, named)) = i
 
   pub reached_back : (p : ℕ) → start.CopyingReached from p → content.ReachedPlace Copying s p
-  reached_back p (start.by_root i j) = let r = root_of_word s.roots p j in content.by_root (is_held p i) r.0 r.1.0 r.1.1
-  reached_back p (start.by_field i {from = q} r o j e) =
+  reached_back p (reach.by_start (i, j)) = let r = root_of_word s.roots p j in content.by_root (is_held p i) r.0 r.1.0 r.1.1
+  reached_back p (reach.by_step {y = q} r (i, (o, (j, e)))) =
       let k = reached_in q r in
       content.by_field (is_held p i) (reached_back q r) (copying_object_at m q) (held q k) (subst (Contains (references Copying s.types (copying_object_at m q))) e (names q o k j))

@@ -2,6 +2,7 @@
 use Rattle.std.specs.Prelude.{◌≡◌, ℕ, ◌+◌, ◌%◌, ◌<◌, ◌≤◌, ◌^◌, ◌⊎◌, List, [], ◌∷◌, length}
 use Rattle.gc_types.specs.Declarations.{Declaration}
 use Rattle.gc_refs.specs.Trace.{form_of}
+use Rattle.gc_view.specs.Reach.{Reachable}
 use Rattle.gc_memory.specs.Words.{word}
 use Rattle.gc_memory.specs.Lists.{In, occ}
 use Rattle.gc_memory.specs.Chains.{Chain}
@@ -59,7 +60,10 @@ pub record IsFrom (s : From) : Type 0 where
   pub external_refs : (p : ℕ) → In p s.places → IsCopyingExternal s.memory p → refs s p ≡ []
   pub hosts : (p : ℕ) → In p s.places → IsCopyingExternal s.memory p → IsHostWord (copying_host_word s.memory p)
 
+-- a reference of the object at a place, at some offset, is the place of another
+abbrev pub CopyingLeads : From → ℕ → ℕ → Type 0
+CopyingLeads s from p = In p s.places × ((o : ℕ) × (In o (refs s from) × (word s.memory (from + o) ≡ p)))
+
 -- The places that the roots reach.
-pub data CopyingReached (s : From) : ℕ → Type 0 where
-  by_root : {p : ℕ} → In p s.places → In p s.roots → CopyingReached s p
-  by_field : {p : ℕ} → In p s.places → {from : ℕ} → CopyingReached s from → (o : ℕ) → In o (refs s from) → word s.memory (from + o) ≡ p → CopyingReached s p
+abbrev pub CopyingReached : From → ℕ → Type 0
+CopyingReached s p = Reachable (λ (q : ℕ). In q s.places × In q s.roots) (CopyingLeads s) p

@@ -33,6 +33,7 @@ use Rattle.gc_drc.specs.SpaceLaws.{blocks_apart, places_are, lies, apart, held_s
 use Rattle.gc_drc.proofs.CountsSeen.{counts_are}
 use Rattle.gc_drc.specs.Graph.{names}
 use Rattle.gc_drc.specs.Graph as graph
+use Rattle.gc_view.specs.Reach as reach
 use Rattle.gc_drc.specs.Unheld as memory
 use Rattle.gc_drc.specs.PlainCounting.{IsUnheld, unheld}
 use Rattle.gc_drc.specs.CollectMemory.{counting_offsets_at, words_at, info_at, offsets_by_info, Context, IsCountingWord, IsContext}
@@ -216,24 +217,19 @@ module _ (s : Start) (v : View) (space : CountedSpace) (scopes : ℕ) (b : Count
   -- WHAT IS REACHED, IN OBJECTS AND IN MEMORY
 
   pub reached_in : (p : ℕ) → graph.CountingReached start.graph p → In p v.places
-  reached_in p (graph.by_root i j) = i
-  reached_in p (graph.by_frame i j) = i
-  reached_in p (graph.by_field i r j) = i
-
-  by_word : (p : ℕ) → In p v.places → In p (held_words s.roots) ⊎ In p (stack_words s.roots) → graph.CountingReached start.graph p
-  by_word p i (inl j) = graph.by_root i j
-  by_word p i (inr j) = graph.by_frame i j
+  reached_in p (reach.by_start (i, j)) = i
+  reached_in p (reach.by_step r (i, j)) = i
 
   pub reached_so : (p : ℕ) → content.ReachedPlace Counting s p → graph.CountingReached start.graph p
   reached_so p (content.by_root h r c e) =
-      by_word p (held_place p h) (subst (λ (w : ℕ). In w (held_words s.roots) ⊎ In w (stack_words s.roots)) e (root_word s.roots r c))
+      reach.by_start (held_place p h, subst (λ (w : ℕ). In w (held_words s.roots) ⊎ In w (stack_words s.roots)) e (root_word s.roots r c))
   reached_so p (content.by_field h {from = q} r o got c) =
-      graph.by_field (held_place p h) (reached_so q r) (word_so p q o got c)
+      reach.by_step (reached_so q r) (held_place p h, word_so p q o got c)
 
   pub reached_back : (p : ℕ) → graph.CountingReached start.graph p → content.ReachedPlace Counting s p
-  reached_back p (graph.by_root i j) = let r = held_root s.roots p j in content.by_root (is_held p i) r.0 r.1.0 r.1.1
-  reached_back p (graph.by_frame i j) = let r = stack_root s.roots p j in content.by_root (is_held p i) r.0 r.1.0 r.1.1
-  reached_back p (graph.by_field {from = q} i r j) =
+  reached_back p (reach.by_start (i, inl j)) = let r = held_root s.roots p j in content.by_root (is_held p i) r.0 r.1.0 r.1.1
+  reached_back p (reach.by_start (i, inr j)) = let r = stack_root s.roots p j in content.by_root (is_held p i) r.0 r.1.0 r.1.1
+  reached_back p (reach.by_step {y = q} r (i, j)) =
       let k = reached_in q r in
       content.by_field (is_held p i) (reached_back q r) (counting_object_at space.memory q) (held q k) (names_so q p k j)
 

@@ -5,7 +5,8 @@ use Rattle.std.proofs.lemmas.Bool.{cases_eq}
 use Rattle.gc_memory.specs.Lists.{occ}
 use Rattle.gc_memory.proofs.ListLemmas.{occ-same, In-occ, occ-In}
 use Rattle.gc_drc.specs.View.{View}
-use Rattle.gc_drc.specs.Graph.{CountedGraph, CountingReached, by_root, by_frame, by_field}
+use Rattle.gc_view.specs.Reach.{by_start, by_step}
+use Rattle.gc_drc.specs.Graph.{CountedGraph, CountingReached}
 use Rattle.gc_drc.specs.Unheld.{Unheld, unheld}
 use Rattle.gc_drc.specs.CollectOps.{same, count_of, uncounted_or_queued, unshown, marked_also, unmarked, unqueued, freed}
 use Rattle.gc_drc.specs.CollectStates.{IsView, Cascading, MarkingFrames, SweepingShown, Draining, Drained}
@@ -240,7 +241,7 @@ kept_not_unheld g v d p (unheld i no_root no_frame holders) held =
 
 -- what the roots reach is kept
 pub reached_kept : (g : CountedGraph) (v : View) → Drained g v → (p : ℕ) → CountingReached g p → 0 < occ p v.places
-reached_kept g v d p (by_root i r) =
+reached_kept g v d p (by_start (i, inl r)) =
     let place = In-occ p g.places i in
     let root = In-occ p g.roots r in
     let counts = d.draining.cascading.counts p place in
@@ -248,11 +249,11 @@ reached_kept g v d p (by_root i r) =
       | inr some ↦ some
       | inl none ↦ absurd (let gone = d.draining.cascading.gone p place none in omega arith)
     ]
-reached_kept g v d p (by_frame i f) =
+reached_kept g v d p (by_start (i, inr f)) =
     let on_list = d.draining.cascading.shown p (In-occ p g.places i) (In-occ p g.frames f) in
     let held = d.draining.is_view.shown p in
     omega arith
-reached_kept g v d p (by_field {from = q} i r w) =
+reached_kept g v d p (by_step {y = q} r (i, w)) =
     let place = In-occ p g.places i in
     let held = reached_kept g v d q r in
     let at = names-at g v.places q p held in

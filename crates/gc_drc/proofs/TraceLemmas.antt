@@ -5,7 +5,8 @@ use Rattle.std.proofs.lemmas.Bool.{cases_eq}
 use Rattle.gc_memory.specs.Lists.{occ}
 use Rattle.gc_memory.proofs.ListLemmas.{occ-same, In-occ, occ-In}
 use Rattle.gc_drc.specs.View.{View}
-use Rattle.gc_drc.specs.Graph.{CountedGraph, names, CountingReached, by_root, by_frame, by_field}
+use Rattle.gc_view.specs.Reach.{by_start, by_step}
+use Rattle.gc_drc.specs.Graph.{CountedGraph, names, CountingReached}
 use Rattle.gc_drc.specs.CollectOps.{same, count_of, uncounted, marked_also, unmarked, freed}
 use Rattle.gc_drc.specs.CollectStates.{IsView, Cascading, Tracing, Marked, Freeing, Done}
 use Rattle.gc_drc.proofs.OccLemmas.{same-is, same-not, occ-cases, occ-without, names-at, names-without}
@@ -17,8 +18,8 @@ pub trace_begins : (g : CountedGraph) (v : View) (pending : List ℕ) → ((x : 
 trace_begins g v pending all none = record {
   marked_reached = λ x h. absurd (let z = none x in omega arith);
   pending_reached = λ x p h. elim (occ-cases x g.roots) [
-    | inr root ↦ by_root (occ-In x g.places p) (occ-In x g.roots root)
-    | inl no_root ↦ by_frame (occ-In x g.places p) (occ-In x g.frames (let a = all x in omega arith))
+    | inr root ↦ by_start (occ-In x g.places p, inl (occ-In x g.roots root))
+    | inl no_root ↦ by_start (occ-In x g.places p, inr (occ-In x g.frames (let a = all x in omega arith)))
   ];
   waiting = λ x. omega arith;
   roots = λ x p h. inr (let a = all x in omega arith);
@@ -89,7 +90,7 @@ trace_scans g v x work t =
     let reached : CountingReached g x = t.marked_reached x (omega arith) in
     record {
       marked_reached = t.marked_reached;
-      pending_reached = λ y p h. by_field (occ-In y g.places p) reached (occ-In y (g.words x) h);
+      pending_reached = λ y p h. by_step reached (occ-In y g.places p, occ-In y (g.words x) h);
       waiting = λ y. let w : occ y (x ∷ work) ≤ occ y v.marked = t.waiting y in omega arith;
       roots = λ y p h. elim (t.roots y p h) [ inl m ↦ inl m | inr none ↦ absurd (omega arith) ];
       frames = λ y p h. elim (t.frames y p h) [ inl m ↦ inl m | inr none ↦ absurd (omega arith) ];
@@ -104,9 +105,9 @@ trace_scans g v x work t =
     }
 
 all_marked : (g : CountedGraph) (v : View) → Tracing g v [] [] → (x : ℕ) → CountingReached g x → 0 < occ x v.marked
-all_marked g v t x (by_root i r) = elim (t.roots x (In-occ x g.places i) (In-occ x g.roots r)) [ inl m ↦ m | inr none ↦ absurd (omega arith) ]
-all_marked g v t x (by_frame i f) = elim (t.frames x (In-occ x g.places i) (In-occ x g.frames f)) [ inl m ↦ m | inr none ↦ absurd (omega arith) ]
-all_marked g v t x (by_field {from = q} i r w) =
+all_marked g v t x (by_start (i, inl r)) = elim (t.roots x (In-occ x g.places i) (In-occ x g.roots r)) [ inl m ↦ m | inr none ↦ absurd (omega arith) ]
+all_marked g v t x (by_start (i, inr f)) = elim (t.frames x (In-occ x g.places i) (In-occ x g.frames f)) [ inl m ↦ m | inr none ↦ absurd (omega arith) ]
+all_marked g v t x (by_step {y = q} r (i, w)) =
     elim (t.fields q x (all_marked g v t q r) (In-occ x g.places i) (In-occ x (g.words q) w)) [
       | inl none ↦ absurd (omega arith)
       | inr (inl m) ↦ m
@@ -134,9 +135,9 @@ freeing_begins g v is c only none m = record {
 
 -- a marked object has a name of its own beside those that are to be lowered, or is shown
 still_named : (g : CountedGraph) (v : View) (pending : List ℕ) (x : ℕ) → Freeing g v pending → CountingReached g x → 0 < names g v.places x + occ x g.roots + occ x v.shown
-still_named g v pending x f (by_root i r) = let root = In-occ x g.roots r in omega arith
-still_named g v pending x f (by_frame i s) = let on_list = f.frames_shown x (In-occ x g.places i) (In-occ x g.frames s) in omega arith
-still_named g v pending x f (by_field {from = q} i r w) =
+still_named g v pending x f (by_start (i, inl r)) = let root = In-occ x g.roots r in omega arith
+still_named g v pending x f (by_start (i, inr s)) = let on_list = f.frames_shown x (In-occ x g.places i) (In-occ x g.frames s) in omega arith
+still_named g v pending x f (by_step {y = q} r (i, w)) =
     let marks = f.is_marked.all q r in
     let held = f.is_view.marked q in
     let at = names-at g v.places q x (omega arith) in
@@ -207,7 +208,7 @@ unmarked_not_shown g v x pending f held none = elim (occ-cases x v.shown) [
   | inl z ↦ z
   | inr some ↦
       let from = f.from x in
-      absurd (let m = f.is_marked.all x (by_frame (occ-In x g.places (omega arith)) (occ-In x g.frames (f.shown_frames x some))) in omega arith)
+      absurd (let m = f.is_marked.all x (by_start (occ-In x g.places (omega arith), inr (occ-In x g.frames (f.shown_frames x some)))) in omega arith)
 ]
 
 -- an unmarked object is freed, and what it names is to be lowered

@@ -11,7 +11,8 @@ use Rattle.gc_memory.specs.Words.{word}
 use Rattle.gc_memory.proofs.ListLemmas.{In-occ, occ-In, occ-same}
 use Rattle.gc_drc.specs.declared.space.CountedSpace.{CountedSpace}
 use Rattle.gc_drc.specs.View.{View, last}
-use Rattle.gc_drc.specs.Graph.{CountedGraph, names, CountingReached, by_root, by_frame, by_field}
+use Rattle.gc_view.specs.Reach.{by_start, by_step}
+use Rattle.gc_drc.specs.Graph.{CountedGraph, names, CountingReached}
 use Rattle.gc_drc.specs.CollectStates.{Cascading, Drained, Tracing, Done}
 use Rattle.gc_drc.specs.CollectMemory.{Context, IsContext, IsCountingWord, At}
 use Rattle.gc_drc.specs.CollectHosts.{HostsLeft}
@@ -203,24 +204,16 @@ module _ (g : CountedGraph) (v : View) (d : Drained g v) where
   abbrev left_graph : CountedGraph
   left_graph = record g { places = v.places }
 
+  start_in : (y : ℕ) → In y v.places → In y g.places
+  start_in y j = occ-In y g.places (let from = d.draining.cascading.from y in let some = In-occ y v.places j in omega arith)
+
   reached_before : (x : ℕ) → CountingReached left_graph x → CountingReached g x
-  reached_before x (by_root i r) = by_root (start_in x i) r
-    where
-      start_in : (y : ℕ) → In y v.places → In y g.places
-      start_in y j = occ-In y g.places (let from = d.draining.cascading.from y in let some = In-occ y v.places j in omega arith)
-  reached_before x (by_frame i f) = by_frame (start_in x i) f
-    where
-      start_in : (y : ℕ) → In y v.places → In y g.places
-      start_in y j = occ-In y g.places (let from = d.draining.cascading.from y in let some = In-occ y v.places j in omega arith)
-  reached_before x (by_field {from = q} i r w) = by_field (start_in x i) (reached_before q r) w
-    where
-      start_in : (y : ℕ) → In y v.places → In y g.places
-      start_in y j = occ-In y g.places (let from = d.draining.cascading.from y in let some = In-occ y v.places j in omega arith)
+  reached_before x (by_start (i, named)) = by_start (start_in x i, named)
+  reached_before x (by_step {y = q} r (i, w)) = by_step (reached_before q r) (start_in x i, w)
 
   reached_after : (x : ℕ) → CountingReached g x → CountingReached left_graph x
-  reached_after x (by_root i r) = by_root (occ-In x v.places (reached_kept g v d x (by_root i r))) r
-  reached_after x (by_frame i f) = by_frame (occ-In x v.places (reached_kept g v d x (by_frame i f))) f
-  reached_after x (by_field {from = q} i r w) = by_field (occ-In x v.places (reached_kept g v d x (by_field i r w))) (reached_after q r) w
+  reached_after x (by_start (i, named)) = by_start (occ-In x v.places (reached_kept g v d x (by_start (i, named))), named)
+  reached_after x (by_step {y = q} r (i, w)) = by_step (reached_after q r) (occ-In x v.places (reached_kept g v d x (by_step r (i, w))), w)
 
   -- what is done for what was left is done for all
   done_for_all : (w : View) → Done left_graph w → Done g w
