@@ -185,18 +185,26 @@ module _ (s : Start) (m : List ℕ) (upper : Bool) (bump head objects scopes : �
 
   -- what is reached, in objects and in bytes
   pub reached_so : (p : ℕ) → content.ReachedPlace Copying s p → start.CopyingReached from p
-  reached_so p (content.by_root h r c e) = reach.by_start (held_place p h, subst (λ w. In w (words_of_roots s.roots)) e (word_of_root s.roots r c))
-  reached_so p (content.by_field h {from = q} r o got c) =
-      let f = found q o got in
-      let n = named_by q p f.among (subst (λ (x : HeapObject). Contains (references Copying s.types x) p) f.is c) in
-      reach.by_step (reached_so q r) (held_place p h, (n.0, (n.1.0, n.1.1)))
+  reached_so p (reach.by_start named) =
+      reach.by_start (held_place p named.held, subst (λ w. In w (words_of_roots s.roots)) named.names (word_of_root s.roots named.root named.among))
+  reached_so p (reach.by_step {y = q} r named) =
+      let f = found q named.object named.there in
+      let n = named_by q p f.among (subst (λ (x : HeapObject). Contains (references Copying s.types x) p) f.is named.among) in
+      reach.by_step (reached_so q r) (held_place p named.held, (n.0, (n.1.0, n.1.1)))
 
   pub reached_in : (p : ℕ) → start.CopyingReached from p → In p (places_in m upper bump)
   reached_in p (reach.by_start (i, j)) = i
   reached_in p (reach.by_step r (i, named)) = i
 
   pub reached_back : (p : ℕ) → start.CopyingReached from p → content.ReachedPlace Copying s p
-  reached_back p (reach.by_start (i, j)) = let r = root_of_word s.roots p j in content.by_root (is_held p i) r.0 r.1.0 r.1.1
+  reached_back p (reach.by_start (i, j)) =
+      let r = root_of_word s.roots p j in
+      reach.by_start (record { held = is_held p i; root = r.0; among = r.1.0; names = r.1.1 })
   reached_back p (reach.by_step {y = q} r (i, (o, (j, e)))) =
       let k = reached_in q r in
-      content.by_field (is_held p i) (reached_back q r) (copying_object_at m q) (held q k) (subst (Contains (references Copying s.types (copying_object_at m q))) e (names q o k j))
+      reach.by_step (reached_back q r) (record {
+        held = is_held p i;
+        object = copying_object_at m q;
+        there = held q k;
+        among = subst (Contains (references Copying s.types (copying_object_at m q))) e (names q o k j);
+      })

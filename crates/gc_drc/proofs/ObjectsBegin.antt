@@ -221,17 +221,21 @@ module _ (s : Start) (v : View) (space : CountedSpace) (scopes : ℕ) (b : Count
   reached_in p (reach.by_step r (i, j)) = i
 
   pub reached_so : (p : ℕ) → content.ReachedPlace Counting s p → graph.CountingReached start.graph p
-  reached_so p (content.by_root h r c e) =
-      reach.by_start (held_place p h, subst (λ (w : ℕ). In w (held_words s.roots) ⊎ In w (stack_words s.roots)) e (root_word s.roots r c))
-  reached_so p (content.by_field h {from = q} r o got c) =
-      reach.by_step (reached_so q r) (held_place p h, word_so p q o got c)
+  reached_so p (reach.by_start named) =
+      reach.by_start (held_place p named.held, subst (λ (w : ℕ). In w (held_words s.roots) ⊎ In w (stack_words s.roots)) named.names (root_word s.roots named.root named.among))
+  reached_so p (reach.by_step {y = q} r named) =
+      reach.by_step (reached_so q r) (held_place p named.held, word_so p q named.object named.there named.among)
 
   pub reached_back : (p : ℕ) → graph.CountingReached start.graph p → content.ReachedPlace Counting s p
-  reached_back p (reach.by_start (i, inl j)) = let r = held_root s.roots p j in content.by_root (is_held p i) r.0 r.1.0 r.1.1
-  reached_back p (reach.by_start (i, inr j)) = let r = stack_root s.roots p j in content.by_root (is_held p i) r.0 r.1.0 r.1.1
+  reached_back p (reach.by_start (i, inl j)) =
+      let r = held_root s.roots p j in
+      reach.by_start (record { held = is_held p i; root = r.0; among = r.1.0; names = r.1.1 })
+  reached_back p (reach.by_start (i, inr j)) =
+      let r = stack_root s.roots p j in
+      reach.by_start (record { held = is_held p i; root = r.0; among = r.1.0; names = r.1.1 })
   reached_back p (reach.by_step {y = q} r (i, j)) =
       let k = reached_in q r in
-      content.by_field (is_held p i) (reached_back q r) (counting_object_at space.memory q) (held q k) (names_so q p k j)
+      reach.by_step (reached_back q r) (record { held = is_held p i; object = counting_object_at space.memory q; there = held q k; among = names_so q p k j })
 
   -- WHAT IS UNHELD, IN OBJECTS AND IN MEMORY
 

@@ -12,11 +12,12 @@ use Rattle.gc_types.specs.Layouts.{struct_base, array_base}
 use Rattle.gc_roots.specs.Roots.{Root}
 use Rattle.gc_view.specs.Bytes.{u32_at}
 use Rattle.gc_view.specs.Heaps.{HeapObject, HeapView}
+use Rattle.gc_view.specs.Reach.{by_start, by_step}
 use Rattle.gc_view.proofs.ByteLemmas.{u32_in_same}
 use Rattle.gc_heap.specs.Objects.{held_size, writable_offset, host_id}
 use Rattle.gc_heap.specs.References.{reference_offsets, typed_offsets, references, word_in, Spaced}
 use Rattle.gc_heap.specs.Content.{IsHeld, IsHeap, IsSpare, TracesInside}
-use Rattle.gc_heap.specs.Collection.{Start, CanCollect, AreCounted, IsWordOf, IsExternal, ReachedPlace, by_root, by_field, Kept, moved, moved_root, IsNoReference, IsMoved, Collected, KindCollected}
+use Rattle.gc_heap.specs.Collection.{Start, CanCollect, AreCounted, IsWordOf, IsExternal, ReachedPlace, Kept, moved, moved_root, IsNoReference, IsMoved, Collected, KindCollected}
 use Rattle.gc_heap.proofs.SpacedLemmas.{Spaced-in}
 use Rattle.gc_memory.proofs.ListLemmas.{only_item, contains_in, in_contains, in_map, map_in}
 use Rattle.gc_heap.proofs.ReferenceLemmas.{HasSameShape, references_spaced, same_offsets, typed_kept, external_none}
@@ -25,18 +26,18 @@ use Rattle.gc_heap.proofs.AddedLemmas.{start, array_bases}
 -- what a root names is kept
 pub kept_by_root : (layouts : Layouts) (s : Start) (place : ℕ) (r : Root) → IsHeld s.heap place → Contains s.roots r → r.word ≡ place → Kept layouts s place
 kept_by_root Null s place r held among is = held
-kept_by_root Counting s place r held among is = by_root held r among is
-kept_by_root Copying s place r held among is = by_root held r among is
+kept_by_root Counting s place r held among is = by_start (record { held = held; root = r; among = among; names = is })
+kept_by_root Copying s place r held among is = by_start (record { held = held; root = r; among = among; names = is })
 
 -- what a kept object names is kept
 pub kept_by_field : (layouts : Layouts) (s : Start) (place from : ℕ) (o : HeapObject) → IsHeld s.heap place → Kept layouts s from → get s.heap.content from ≡ Some o → Contains (references layouts s.types o) place → Kept layouts s place
 kept_by_field Null s place from o held kept got among = held
-kept_by_field Counting s place from o held kept got among = by_field held kept o got among
-kept_by_field Copying s place from o held kept got among = by_field held kept o got among
+kept_by_field Counting s place from o held kept got among = by_step kept (record { held = held; object = o; there = got; among = among })
+kept_by_field Copying s place from o held kept got among = by_step kept (record { held = held; object = o; there = got; among = among })
 
 reached_held : (layouts : Layouts) (s : Start) (place : ℕ) → ReachedPlace layouts s place → IsHeld s.heap place
-reached_held layouts s _ (by_root held r among is) = held
-reached_held layouts s _ (by_field held reached o got among) = held
+reached_held layouts s _ (by_start named) = named.held
+reached_held layouts s _ (by_step reached named) = named.held
 
 -- what is kept was held
 pub kept_held : (layouts : Layouts) (s : Start) (place : ℕ) → Kept layouts s place → IsHeld s.heap place

@@ -15,7 +15,7 @@ use Rattle.gc_heap.specs.Space.{IsHeld}
 use Rattle.gc_heap.specs.Extents.{host_id}
 use Rattle.gc_heap.specs.References.{reference_offsets, references, word_in}
 use Rattle.gc_heap.specs.declared.collection.GcProgress.TheVariants as progress
-pub use Rattle.gc_heap.specs.Starts.{AreReached, CountsAnew, CountsExact, ReachedPlace, Start, Stays, by_field, by_root, held_words, names_of, objects_per_increment, occurrences, present_words, reference_count, stack_words}
+pub use Rattle.gc_heap.specs.Starts.{AreReached, CountsAnew, CountsExact, ObjectNames, ReachedPlace, RootNames, Start, Stays, held_words, names_of, objects_per_increment, occurrences, present_words, reference_count, stack_words}
 pub use Rattle.gc_heap.specs.Rules.{AreCounted, IsIncrements, IsStepCount, Kept, KindCollected}
 
 -- whether a host table has a value under an id

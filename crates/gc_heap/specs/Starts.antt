@@ -8,6 +8,7 @@ use Rattle.gc_types.specs.Declarations.{Declaration}
 use Rattle.gc_types.specs.declared.kind.Layouts.{Layouts}
 use Rattle.gc_roots.specs.Roots.{Root}
 use Rattle.gc_view.specs.Heaps.{HeapObject, HeapView}
+use Rattle.gc_view.specs.Reach.{Reachable}
 use Rattle.gc_heap.specs.Space.{IsHeld, total}
 use Rattle.gc_heap.specs.References.{reference_offsets, references}
 
@@ -41,11 +42,23 @@ pub record CountsExact (types : List Declaration) (h : HeapView) (roots : List R
   pub counted : (place n : ℕ) → finite.get h.counts.counted place ≡ Some n → n ≡ names_of Counting types h roots place
   pub shown : (place : ℕ) → IsHeld h place → Contains (stack_words roots) place → IsTrue (finset.contains h.counts.shown place)
 
--- The places that the roots reach: a root names it, or a reference of an object that is reached.
-pub data ReachedPlace (layouts : Layouts) (s : Start) : ℕ → Type 0 where
-  by_root : {place : ℕ} → IsHeld s.heap place → (r : Root) → Contains s.roots r → r.word ≡ place → ReachedPlace layouts s place
-  by_field : {place : ℕ} → IsHeld s.heap place → {from : ℕ} → ReachedPlace layouts s from → (o : HeapObject)
-      → finite.get s.heap.content from ≡ Some o → Contains (references layouts s.types o) place → ReachedPlace layouts s place
+-- a root names the object that is held at a place
+pub record RootNames (s : Start) (place : ℕ) : Type 0 where
+  pub held : IsHeld s.heap place
+  pub root : Root
+  pub among : Contains s.roots root
+  pub names : root.word ≡ place
+
+-- the object at a place names the one that is held at another
+pub record ObjectNames (layouts : Layouts) (s : Start) (from place : ℕ) : Type 0 where
+  pub held : IsHeld s.heap place
+  pub object : HeapObject
+  pub there : finite.get s.heap.content from ≡ Some object
+  pub among : Contains (references layouts s.types object) place
+
+-- the places that the roots reach
+abbrev pub ReachedPlace : Layouts → Start → ℕ → Type 0
+ReachedPlace layouts s = Reachable (RootNames s) (ObjectNames layouts s)
 
 -- after a collection shown are exactly the places that frame slots name, and nothing is queued
 pub record CountsAnew (types : List Declaration) (h : HeapView) (roots : List Root) : Type 0 where

@@ -15,7 +15,7 @@ use Rattle.gc_model.specs.Holds.{Placing, IsWord, naming, Holds}
 use Rattle.gc_model.proofs.Words.{word_names}
 use Rattle.gc_heap.specs.Content.{IsHeap}
 use Rattle.gc_heap.specs.References.{reference_offsets, references, word_in}
-use Rattle.gc_heap.specs.Collection.{ReachedPlace, by_root, by_field, Kept}
+use Rattle.gc_heap.specs.Collection.{ReachedPlace, Kept}
 use Rattle.gc_memory.proofs.ListLemmas.{contains_in, in_map}
 use Rattle.gc_owner.specs.Tracing.{IsTraced, AreTraced, start_from}
 use Rattle.gc_owner.specs.RootColumns.{roots_of}
@@ -45,17 +45,17 @@ module _ {D : Type 0} (layouts : Layouts) (s : StoreView D) (v : OwnerView D) (t
 
   -- an object that the heap's roots reach is one that the table's roots reach
   pub reached_position : IsHeap layouts v.heap → (word : ℕ) → ReachedPlace layouts (start_from v.types.declarations v.heap (roots_of v.roots) hosts) word → (p : ℕ) → place p ≡ Some word → IsReached t p
-  reached_position heap word (by_root held r among is) p e =
-      let found = listed_named layouts s v t place holds all_held in_frames r among in
-      let names : found.0 ≡ at p = word_names layouts t place v.heap holds.objects found.0 (at p) word (subst (IsWord place found.0) is found.1.1) e in
+  reached_position heap word (reach.by_start root) p e =
+      let found = listed_named layouts s v t place holds all_held in_frames root.root root.among in
+      let names : found.0 ≡ at p = word_names layouts t place v.heap holds.objects found.0 (at p) word (subst (IsWord place found.0) root.names found.1.1) e in
       reach.by_start (subst (λ (x : Reference). Contains (reach.root_references t) x) names found.1.0)
-  reached_position heap word (by_field held {from = from} reached o got among) p e =
-      let before = holds.objects.only from o got in
+  reached_position heap word (reach.by_step {y = from} reached field) p e =
+      let before = holds.objects.only from field.object field.there in
       let there = holds.objects.placed before.0 from before.1 in
-      let both : Some there.object ≡ Some o = sym there.in_heap ∙ got in
-      let same : there.object ≡ o = grind (arith, both) in
+      let both : Some there.object ≡ Some field.object = sym there.in_heap ∙ field.there in
+      let same : there.object ≡ field.object = grind (arith, both) in
       let found = in_map (word_in layouts there.object) (reference_offsets layouts t.types there.object) word
-      (contains_in (references layouts t.types there.object) word (subst (λ x. Contains (references layouts t.types x) word) (sym same) (subst (λ types. Contains (references layouts types o) word) holds.types among))) in
+      (contains_in (references layouts t.types there.object) word (subst (λ x. Contains (references layouts t.types x) word) (sym same) (subst (λ types. Contains (references layouts types field.object) word) holds.types field.among))) in
       let named = reference_of_word layouts t.types (naming place s.ids) there.entry there.object there.stands (heap.objects from there.object there.in_heap).spare (traced_here from there.object there.in_heap) found.0 found.1.0 in
       let names : named.reference_is ≡ at p = word_names layouts t place v.heap holds.objects named.reference_is (at p) word (subst (IsWord place named.reference_is) found.1.1 named.is_word) e in
       value_reached layouts (shown s v) t place holds before.0 there.entry (reached_position heap from reached before.0 before.1) there.in_table named.reference_is p names named.among

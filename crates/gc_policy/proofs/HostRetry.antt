@@ -12,10 +12,11 @@ use Rattle.gc_roots.specs.Roots.{Root}
 use Rattle.gc_view.specs.Pages.{page}
 use Rattle.gc_view.specs.Sizes.{external_size}
 use Rattle.gc_view.specs.Heaps.{HeapView, HeapObject}
+use Rattle.gc_view.specs.Reach.{by_start, by_step}
 use Rattle.gc_heap.specs.Content.{IsHeap}
 use Rattle.gc_heap.specs.Extents.{host_id}
 use Rattle.gc_heap.specs.Objects.{external}
-use Rattle.gc_heap.specs.Collection.{ReachedPlace, by_root, by_field, Kept, KindCollected, IsExternal, IsPartOf, has_host}
+use Rattle.gc_heap.specs.Collection.{ReachedPlace, Kept, KindCollected, IsExternal, IsPartOf, has_host}
 use Rattle.gc_heap.proofs.AgainLemmas.{origin, external_origin}
 use Rattle.gc_owner.specs.RootColumns.{roots_of}
 use Rattle.gc_owner.specs.Tracing.{start_from}
@@ -40,8 +41,9 @@ less_state id s = state_of (less id s.owner) s.limits
 -- Which values a host table has doesn't matter to what a collection keeps
 
 reached_with : (layouts : Layouts) (types : List Declaration) (h : HeapView) (roots : List Root) (hosts hosts' : ℕ → Bool) (place : ℕ) → ReachedPlace layouts (start_from types h roots hosts) place → ReachedPlace layouts (start_from types h roots hosts') place
-reached_with layouts types h roots hosts hosts' _ (by_root held r among is) = by_root held r among is
-reached_with layouts types h roots hosts hosts' _ (by_field held {from = from} reached o got among) = by_field held (reached_with layouts types h roots hosts hosts' from reached) o got among
+reached_with layouts types h roots hosts hosts' _ (by_start n) = by_start (record { held = n.held; root = n.root; among = n.among; names = n.names })
+reached_with layouts types h roots hosts hosts' _ (by_step {y = from} reached n) =
+    by_step (reached_with layouts types h roots hosts hosts' from reached) (record { held = n.held; object = n.object; there = n.there; among = n.among })
 
 kept_with : (layouts : Layouts) (types : List Declaration) (h : HeapView) (roots : List Root) (hosts hosts' : ℕ → Bool) (place : ℕ) → Kept layouts (start_from types h roots hosts) place → Kept layouts (start_from types h roots hosts') place
 kept_with Null types h roots hosts hosts' place kept = kept

@@ -8,6 +8,7 @@ use Rattle.gc_types.specs.declared.kind.Layouts.{Layouts}
 use Rattle.gc_types.specs.declared.kind.Layouts.TheVariants.{Copying}
 use Rattle.gc_types.specs.Declarations.{Declaration}
 use Rattle.gc_roots.specs.Roots.{Root}
+use Rattle.gc_view.specs.Reach.{by_start, by_step}
 use Rattle.gc_model.specs.Table.{Table}
 use Rattle.gc_model.specs.Reach.{IsReached, AreAll, HasNumber, root_references}
 use Rattle.gc_model.specs.Stores.{StoreView}
@@ -80,11 +81,18 @@ distinct_map f (x ∷ xs) injective distinct = (
 
 -- what is reached goes by the objects, the roots and the types alone
 reached_again : (layouts : Layouts) (s s' : Start) → s'.heap.content ≡ s.heap.content → s'.roots ≡ s.roots → s'.types ≡ s.types → (word : ℕ) → heap.ReachedPlace layouts s word → heap.ReachedPlace layouts s' word
-reached_again layouts s s' content roots types word (heap.by_root held r among is) =
-    heap.by_root (held.0, ap (λ m. get m word) content ∙ held.1) r (subst (λ (rs : List Root). Contains rs r) (sym roots) among) is
-reached_again layouts s s' content roots types word (heap.by_field held {from = from} reached o got among) =
-    heap.by_field (held.0, ap (λ m. get m word) content ∙ held.1) (reached_again layouts s s' content roots types from reached) o (ap (λ m. get m from) content ∙ got)
-    (subst (λ (ds : List Declaration). Contains (references layouts ds o) word) (sym types) among)
+reached_again layouts s s' content roots types word (by_start named) = by_start (record {
+  held = (named.held.0, ap (λ m. get m word) content ∙ named.held.1);
+  root = named.root;
+  among = subst (λ (rs : List Root). Contains rs named.root) (sym roots) named.among;
+  names = named.names;
+})
+reached_again layouts s s' content roots types word (by_step {y = from} reached named) = by_step (reached_again layouts s s' content roots types from reached) (record {
+  held = (named.held.0, ap (λ m. get m word) content ∙ named.held.1);
+  object = named.object;
+  there = ap (λ m. get m from) content ∙ named.there;
+  among = subst (λ (ds : List Declaration). Contains (references layouts ds named.object) word) (sym types) named.among;
+})
 
 -- the same of two trims of one owner
 reached_trimmed : {D : Type 0} (layouts : Layouts) (v m n : OwnerView D) → Trims layouts v m → Trims layouts v n → (word : ℕ) → heap.ReachedPlace layouts (start_of n) word → heap.ReachedPlace layouts (start_of m) word

@@ -174,7 +174,7 @@ module _ {D : Type 0} (layouts : Layouts) (s : StoreView D) (v : OwnerView D) (t
       let root = has_root layouts s v t place holds in_frames (at p) c in
       let held = held_at p root.0 root.1.0 in
       let rooted = root.1.1 held.1 in
-      record { word = root.0; placed = root.1.0; reached = heap.by_root held.0 rooted.0 rooted.1.0 rooted.1.1 }
+      record { word = root.0; placed = root.1.0; reached = reach.by_start (record { held = held.0; root = rooted.0; among = rooted.1.0; names = rooted.1.1 }) }
   is_there p (reach.by_step {y = q} reached named) =
       let before = is_there q reached in
       let there = holds.objects.placed q before.word before.placed in
@@ -186,8 +186,12 @@ module _ {D : Type 0} (layouts : Layouts) (s : StoreView D) (v : OwnerView D) (t
         word = field.0;
         placed = field.1.0;
         reached =
-            heap.by_field (held_at p field.0 field.1.0).0 before.reached there.object there.in_heap
-            (subst (λ (types : List Declaration). Contains (references layouts types there.object) field.0) (sym holds.types) field.1.1);
+            reach.by_step before.reached (record {
+              held = (held_at p field.0 field.1.0).0;
+              object = there.object;
+              there = there.in_heap;
+              among = subst (λ (types : List Declaration). Contains (references layouts types there.object) field.0) (sym holds.types) field.1.1;
+            });
       }
 
 -- images of different numbers, each once
