@@ -1,24 +1,25 @@
 -- How many bytes an object takes, by the heap that holds it.
-use Rattle.std.specs.Prelude.{ℕ, ◌+◌, ◌*◌, length, map, slice_get, option_and_then, List, [], ◌∷◌, Option, None, Some}
+use Rattle.std.specs.Prelude.{ℕ, ◌+◌, length, map, slice_get, option_and_then, List, [], ◌∷◌, Option, None, Some}
 use Rattle.gc_types.specs.declared.value.FieldType.{FieldType}
 use Rattle.gc_types.specs.declared.kind.Layouts.{Layouts}
 use Rattle.gc_types.specs.declared.kind.Layouts.TheVariants.{Null, Copying}
 use Rattle.gc_types.specs.Declarations.{Declaration, Shape, struct_of, array_of, exn_of, func_of, struct_fields_at, elem_at, constant_field}
-use Rattle.gc_types.specs.Layouts.{struct_base, exception_base, array_base, storage_width, fields_end, round_up}
+use Rattle.gc_types.specs.Layouts.{round_up}
 use Rattle.gc_memory.specs.Offsets.{external_size}
 use Rattle.gc_model.specs.Values.{Object, struct, array, host, exception}
 use Rattle.gc_view.specs.Sizes.{alignment}
+use Rattle.gc_view.specs.Slots.{struct_bytes, exception_bytes, array_bytes}
 use Rattle.gc_model.specs.Table.{Table}
 
 -- the bytes of a struct with these fields; 0 where there is no such type
 abbrev pub fields_size : Layouts → Option (List FieldType) → ℕ
 fields_size layouts None = 0
-fields_size layouts (Some fields) = fields_end (struct_base layouts) fields
+fields_size layouts (Some fields) = struct_bytes layouts fields
 
 -- the bytes of an array of so many elements
 abbrev pub elements_size : Layouts → Option FieldType → ℕ → ℕ
 elements_size layouts None n = 0
-elements_size layouts (Some element) n = round_up (array_base layouts) (storage_width element.element_type) + n * storage_width element.element_type
+elements_size layouts (Some element) n = array_bytes layouts element n
 
 -- the fields where the type is an exception
 abbrev pub shape_exn_fields : Shape → Option (List FieldType)
@@ -34,7 +35,7 @@ exn_fields_at types ty = option_and_then (λ (d : Declaration). shape_exn_fields
 -- the bytes of an exception with these fields
 abbrev pub exception_size : Layouts → Option (List FieldType) → ℕ
 exception_size layouts None = 0
-exception_size layouts (Some fields) = fields_end (exception_base layouts) fields
+exception_size layouts (Some fields) = exception_bytes layouts fields
 
 -- The bytes of an object, by its type; 0 where there is no such type.
 abbrev pub object_size : {D : Type 0} → Layouts → List Declaration → Object D → ℕ

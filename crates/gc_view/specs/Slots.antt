@@ -34,9 +34,19 @@ shape_slots layouts (array_of element) n = element_slots element.element_type n 
 shape_slots layouts (exn_of params) n = field_slots (exception_base layouts) (map constant_field params)
 shape_slots layouts (func_of params results) n = []
 
+-- the bytes of a struct with these fields, of an exception with these, and of an array of so many elements
+abbrev pub struct_bytes : Layouts → List FieldType → ℕ
+struct_bytes layouts fields = fields_end (struct_base layouts) fields
+
+abbrev pub exception_bytes : Layouts → List FieldType → ℕ
+exception_bytes layouts fields = fields_end (exception_base layouts) fields
+
+abbrev pub array_bytes : Layouts → FieldType → ℕ → ℕ
+array_bytes layouts element n = elements_from layouts element + n * storage_width element.element_type
+
 -- the bytes of an object of that shape, as its layout has them
 abbrev pub shape_size : Layouts → Shape → ℕ → ℕ
-shape_size layouts (struct_of fields) n = fields_end (struct_base layouts) fields
-shape_size layouts (array_of element) n = elements_from layouts element + n * storage_width element.element_type
-shape_size layouts (exn_of params) n = fields_end (exception_base layouts) (map constant_field params)
+shape_size layouts (struct_of fields) n = struct_bytes layouts fields
+shape_size layouts (array_of element) n = array_bytes layouts element n
+shape_size layouts (exn_of params) n = exception_bytes layouts (map constant_field params)
 shape_size layouts (func_of params results) n = 0
