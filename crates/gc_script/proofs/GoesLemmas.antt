@@ -1,6 +1,6 @@
 -- A command that asks no limiter is a step under any limit, and follows the policy.
 use Rattle.std.proofs.Common.{inl, ◌≡◌, ℕ, ◌==◌, Bool, true, false, cond, List, [], ◌∷◌, Option, Some, None, sym, ap, ◌∙◌, refl, subst}
-use Rattle.std.specs.Prelude.{Result, Ok, Err, not}
+use Rattle.std.specs.Prelude.{◌&&◌, Result, Ok, Err, not}
 use Rattle.std.proofs.lemmas.List.Concat.{flat_map-cons}
 use Rattle.gc_types.specs.declared.kind.Layouts.{Layouts}
 use Rattle.gc_types.specs.declared.value.FieldType.{FieldType}
@@ -20,7 +20,7 @@ use Rattle.gc_script.specs.declared.runner.RunError.{RunError}
 use Rattle.gc_script.specs.Slots.{RunnerView}
 use Rattle.gc_script.specs.State.{State, HoldsState, visible}
 use Rattle.gc_script.specs.Built.{is_built}
-use Rattle.gc_script.specs.Shapes.{CommandShape, plain, declaring, making, growing, collecting, showing, shape, is_collection, given_struct, new_exception, filled_array, new_fixed}
+use Rattle.gc_script.specs.Shapes.{CommandShape, plain, declaring, making, growing, collecting, showing, shape, shape_collects, shape_asks_nothing, is_collection, given_struct, new_exception, filled_array, new_fixed}
 use Rattle.gc_script.specs.Steps.{tests, built_tests, value_tests, all_value_tests, element_tests, heap_tests, first_failing, AnswersShape, Does, declared, bad}
 use Rattle.gc_script.specs.Policy.{policy_of, AsksNothing, FollowsTested, Came}
 use Rattle.gc_script.specs.Run.{SaysRefused, GoesOn, RunsOne, WantsAfter, wanted_bytes, asks_nothing}
@@ -153,42 +153,24 @@ goes_runs layouts counter limits s c (Ok answer) new runner asks goes =
 goes_runs layouts counter limits s c (Err e) new runner asks goes = record { wants = wants_nothing layouts counter limits s (shape c) (first_failing (tests layouts s c)) new runner goes }
 
 -- the commands that ask none are of such a shape
+asks_by : (built : Bool) (sh : CommandShape) → (built && shape_asks_nothing sh) ≡ true → AsksNone sh
+asks_by built (plain effect) e = tt
+asks_by built (declaring d) e = tt
+asks_by built showing e = tt
+asks_by true sh e = absurd (cc e)
+asks_by false sh e = absurd (cc e)
+
 pub asks_none : (c : Command) → asks_nothing c ≡ true → AsksNone (shape c)
-asks_none (Struct is_final supertype fs) e = tt
-asks_none (Array is_final supertype element) e = tt
-asks_none (ReadBytes r n) e = tt
-asks_none (I31 d n) e = tt
-asks_none (Field r i into) e = tt
-asks_none (Elem r i into) e = tt
-asks_none (Len r) e = tt
-asks_none (HostNumber r) e = tt
-asks_none (SetField r i v) e = tt
-asks_none (SetElem r i v) e = tt
-asks_none (Eq r q) e = tt
-asks_none Enter e = tt
-asks_none Leave e = tt
-asks_none (Push k) e = tt
-asks_none Pop e = tt
-asks_none (Store k r) e = tt
-asks_none (Load k d) e = tt
-asks_none (SetGlobal g r) e = tt
-asks_none (GetGlobal g d) e = tt
-asks_none (Exn params) e = tt
-asks_none (Own o r) e = tt
-asks_none (Root d o) e = tt
-asks_none (Unroot o) e = tt
-asks_none (Throw r) e = tt
-asks_none (Take d) e = tt
-asks_none Cap e = tt
-asks_none c e = absurd (cc e)
+asks_none c = asks_by (is_built c) (shape c)
 
 -- a command that is known goes as it does
 pub goes_as : (layouts : Layouts) (s : State) (c known : Command) (result : Result Reply RunError) (new : StoreView ℕ) (runner : RunnerView) → c ≡ known → GoesOn layouts s known result new runner → GoesOn layouts s c result new runner
 goes_as layouts s c known result new runner is goes = subst (λ (x : Command). GoesOn layouts s x result new runner) (sym is) goes
 
 -- nor do they collect
+collects_by : (sh : CommandShape) → AsksNone sh → shape_collects sh ≡ true → ⊥
+collects_by (collecting told) asks is = asks
+collects_by sh asks is = cc is
+
 pub asks_collect : (c : Command) → asks_nothing c ≡ true → is_collection c ≡ true → ⊥
-asks_collect Gc asks is = cc asks
-asks_collect GcInc asks is = cc asks
-asks_collect GcDrop asks is = cc asks
-asks_collect c asks is = cc is
+asks_collect c asks = collects_by (shape c) (asks_none c asks)

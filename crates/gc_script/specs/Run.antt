@@ -1,5 +1,5 @@
 -- A run of commands.
-use Rattle.std.specs.Prelude.{◌≡◌, ℕ, ◌+◌, ◌≤◌, ◌⊎◌, List, [], ◌∷◌, Option, None, Result, Ok, Err, Bool, true, false, if◌then◌else◌}
+use Rattle.std.specs.Prelude.{◌≡◌, ℕ, ◌+◌, ◌&&◌, ◌≤◌, ◌⊎◌, List, [], ◌∷◌, Option, None, Result, Ok, Err, Bool, true, false, if◌then◌else◌}
 use Rattle.gc_types.specs.declared.kind.Layouts.{Layouts}
 use Rattle.gc_view.specs.Sizes.{need_of}
 use Rattle.gc_model.specs.Sizes.{object_size}
@@ -18,7 +18,7 @@ use Rattle.gc_commands.specs.declared.reply.Refusal.TheVariants as refusal
 use Rattle.gc_script.specs.Slots.{RunnerView}
 use Rattle.gc_script.specs.State.{State, HoldsState, with_heap, visible}
 use Rattle.gc_script.specs.Built.{is_built}
-use Rattle.gc_script.specs.Shapes.{CommandShape, making, growing, shape}
+use Rattle.gc_script.specs.Shapes.{CommandShape, making, growing, shape, shape_asks_nothing}
 use Rattle.gc_script.specs.Steps.{Step, AnswersShape, tests, first_failing}
 use Rattle.gc_script.specs.Policy.{policy_of, Follows, FollowsTested, Came}
 use Rattle.gc_script.specs.declared.runner.RunError.{RunError}
@@ -146,30 +146,4 @@ GoesOn layouts s c result new runner = GoesBy layouts s (shape c) (tests layouts
 
 -- the commands of such a shape that are built
 abbrev pub asks_nothing : Command → Bool
-asks_nothing (Struct is_final supertype fs) = true
-asks_nothing (Array is_final supertype element) = true
-asks_nothing (Exn params) = true
-asks_nothing (ReadBytes r n) = true
-asks_nothing (I31 d n) = true
-asks_nothing (Field r i into) = true
-asks_nothing (Elem r i into) = true
-asks_nothing (Len r) = true
-asks_nothing (HostNumber r) = true
-asks_nothing (SetField r i v) = true
-asks_nothing (SetElem r i v) = true
-asks_nothing (Eq r q) = true
-asks_nothing Enter = true
-asks_nothing Leave = true
-asks_nothing (Push k) = true
-asks_nothing Pop = true
-asks_nothing (Store k r) = true
-asks_nothing (Load k d) = true
-asks_nothing (SetGlobal g r) = true
-asks_nothing (GetGlobal g d) = true
-asks_nothing (Own o r) = true
-asks_nothing (Root d o) = true
-asks_nothing (Unroot o) = true
-asks_nothing (Throw r) = true
-asks_nothing (Take d) = true
-asks_nothing Cap = true
-asks_nothing _ = false
+asks_nothing c = is_built c && shape_asks_nothing (shape c)

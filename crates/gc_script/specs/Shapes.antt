@@ -313,9 +313,17 @@ shape (Grow n) = growing n
 shape Cap = showing
 shape _ = plain (λ (s : State). (reply.Refused refusal.BadLine, s))
 
--- whether a command collects
+-- whether a command of a shape collects
+abbrev pub shape_collects : CommandShape → Bool
+shape_collects (collecting told) = true
+shape_collects _ = false
+
 abbrev pub is_collection : Command → Bool
-is_collection Gc = true
-is_collection GcDrop = true
-is_collection GcInc = true
-is_collection _ = false
+is_collection c = shape_collects (shape c)
+
+-- whether it asks nothing of a limiter and leaves the heap's account
+abbrev pub shape_asks_nothing : CommandShape → Bool
+shape_asks_nothing (plain effect) = true
+shape_asks_nothing (declaring d) = true
+shape_asks_nothing showing = true
+shape_asks_nothing _ = false
