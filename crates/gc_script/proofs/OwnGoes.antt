@@ -15,7 +15,7 @@ use Rattle.gc_model.specs.Table.{Table, Owned, push}
 use Rattle.gc_model.specs.OwnedRoots.{own, drop_handle, owned_among, owned_full, handles_changed, handled_roots}
 use Rattle.gc_model.specs.Live.{roots_full}
 use Rattle.gc_model.specs.Stores.{StoreView}
-use Rattle.gc_model.proofs.OwnedRoots.{owned_found, owned_one}
+use Rattle.gc_model.proofs.OwnedRoots.{owned_found}
 use Rattle.gc_policy.specs.Accounts.{Account, HoldsAccount}
 use Rattle.gc_values.specs.declared.root.GcRootIndex.{GcRootIndex}
 use Rattle.gc_values.specs.declared.root.RawValue.{RawValue}
@@ -25,7 +25,7 @@ use Rattle.gc_values.specs.declared.root.RootFault.{RootFault}
 use Rattle.gc_values.specs.declared.root.RootFault.TheVariants as fault
 use Rattle.gc_store.specs.Handles.{PushesRoot}
 use Rattle.gc_store.specs.OwnedRoots.{MadeOwned, MakesOwned, DropsHandle, ReleasesHandle}
-use Rattle.gc_store.specs.Roots.{is_of_store, owned_handle, NamesReference, NamesNothing, TellsReference}
+use Rattle.gc_store.specs.Roots.{is_of_store, owned_handle, NamesOwned, NamesReference, NamesNothing, TellsReference}
 use Rattle.gc_store.specs.Stores.{IsSameStore}
 use Rattle.gc_store.proofs.HandleWords.{owned-of_store, named_alone, named_held}
 use Rattle.gc_values.specs.RawValues.{raw_handle}
@@ -144,6 +144,14 @@ drop_none n (x ∷ xs) all =
     ∙ ap (λ ys. x ∷ ys) rest
 
 module _ (layouts : Layouts) (s new : StoreView ℕ) (t : Table ℕ) (a : Account) (holds : HoldsAccount layouts s t a) (handle : GcRootIndex) (n : ℕ) (c : GcClass) (is_handle : handle ≡ owned_handle s n) where
+  -- the handle names what the owned root of its number does
+  names_live : (root : Owned) → Contains t.owned root → root.number ≡ n → NamesOwned s t handle root.reference
+  names_live one among same = record {
+    number = n;
+    names = is_handle;
+    live = ap (λ m. owned_among m t.owned) (sym same) ∙ owned_found t.owned one holds.holds.owned.in_order among;
+  }
+
   -- a handle of an owned register was given up, or its root was gone
   pub gave_up : (was_held : Bool) → DropsHandle layouts s t a handle was_held new → HoldsAccount layouts new (give_up (Some (owned c n)) t) a
   gave_up true did =
@@ -151,7 +159,7 @@ module _ (layouts : Layouts) (s new : StoreView ℕ) (t : Table ℕ) (a : Accoun
       subst (λ m. HoldsAccount layouts new (drop_handle m t) a) same did.1.1
   gave_up false did =
       subst (λ (os : List Owned). HoldsAccount layouts new (record t { owned = os }) a)
-      (sym (drop_none n t.owned (λ root among. (λ same. did.0 root (record { among = among; is = is_handle ∙ ap (owned_handle s) (sym same) }), (holds.holds.owned.in_store root among).1.1.held)))) did.1
+      (sym (drop_none n t.owned (λ root among. (λ same. did.0 root.reference (names_live root among same), (holds.holds.owned.in_store root among).1.1.held)))) did.1
 
   -- the store refuses none
   pub never_unreleased : (f : RootFault) → ReleasesHandle layouts s t a handle (Err f) new → ⊥
@@ -171,9 +179,7 @@ module _ (layouts : Layouts) (s new : StoreView ℕ) (t : Table ℕ) (a : Accoun
     where
       by : (o : Option Reference) → owned_among n t.owned ≡ o → owned_among n t.owned ≡ None
       by None e = e
-      by (Some r) e =
-          let found = owned_one n t.owned r e in
-          absurd (did.0 found.0 (record { among = found.1.0; is = is_handle ∙ ap (owned_handle s) (sym found.1.1.0) }))
+      by (Some r) e = absurd (did.0 r (record { number = n; names = is_handle; live = e }))
 
 -- Making
 

@@ -9,13 +9,14 @@ use Rattle.gc_model.specs.OwnedRoots.{add_handle, drop_handle}
 use Rattle.gc_model.specs.Stores.{StoreView}
 use Rattle.gc_model.specs.Holds.{Placing, Holds}
 use Rattle.gc_model.proofs.HoldsOwned.{holds_handle_added, holds_handle_dropped}
+use Rattle.gc_model.proofs.OwnedRoots.{owned_one}
 use Rattle.gc_policy.specs.Accounts.{Account, HoldsAccount}
 use Rattle.gc_policy.proofs.AccountLemmas.{account_kept}
 use Rattle.gc_values.specs.declared.config.HeapConfig.{HeapConfig}
 use Rattle.gc_values.specs.declared.engine.StoreId.{StoreId}
 use Rattle.gc_values.specs.declared.root.GcRootIndex.{GcRootIndex}
 use Rattle.gc_values.specs.declared.root.RootSlot.TheVariants as slot
-use Rattle.gc_store.specs.Roots.{is_of_store}
+use Rattle.gc_store.specs.Roots.{is_of_store, owned_handle}
 use Rattle.gc_values.specs.declared.root.RootFault.{RootFault}
 use Rattle.gc_values.specs.declared.root.RootFault.TheVariants as fault
 use Rattle.gc_store.specs.OwnedRoots.{IsHandleOf, IsOfNone, ReleasesHandle}
@@ -44,13 +45,18 @@ found_by_slot s handle None is finds = λ _. finds
 
 module _ {D : Type 0} (layouts : Layouts) (s : StoreView D) (t : Table D) (place : Placing) (holds : Holds layouts s t place) (handle : GcRootIndex) (own : is_of_store s handle ≡ true) where
   -- where none is found the handle is of none
-  pub of_none : FindsHeld s handle None → IsOfNone s t handle
-  of_none finds root is =
+  of_no_root : FindsHeld s handle None → (root : Owned) → ¬ IsHandleOf s t handle root
+  of_no_root finds root is =
       let entry = holds.owned.in_store root is.among in
       let stands = entry.1.1 in
       let generation : handle.generation ≡ root.number = ap (λ (h : GcRootIndex). h.generation) is.is in
       let slot_is : handle.slot ≡ slot.Owned (owned_id handle.generation) = ap (λ (h : GcRootIndex). h.slot) is.is ∙ ap (λ n. slot.Owned (owned_id n)) (sym generation) in
       finds slot_is entry.0 entry.1.0 (let held = stands.held in let same = stands.handles in omega (arith, held, same)) (stands.number ∙ sym generation)
+
+  pub of_none : FindsHeld s handle None → IsOfNone s t handle
+  of_none finds r named =
+      let root = owned_one named.number t.owned r named.live in
+      of_no_root finds root.0 (record { among = root.1.0; is = named.names ∙ ap (owned_handle s) (sym root.1.1.0) })
 
   module _ (i : ℕ) (finds : FindsHeld s handle (Some i)) where
     abbrev entry : OwnedEntry

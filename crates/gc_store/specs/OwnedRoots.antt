@@ -10,7 +10,7 @@ use Rattle.gc_policy.specs.Accounts.{Account, HoldsAccount}
 use Rattle.gc_values.specs.declared.root.GcRootIndex.{GcRootIndex}
 use Rattle.gc_values.specs.declared.root.RootFault.{RootFault}
 use Rattle.gc_values.specs.declared.root.RootFault.TheVariants as fault
-use Rattle.gc_store.specs.Roots.{is_of_store, owned_handle, NamesReference, NamesNothing}
+use Rattle.gc_store.specs.Roots.{is_of_store, owned_handle, NamesOwned, NamesReference, NamesNothing}
 
 -- an owned root was made for what the handle names, and the answer is its handle
 pub record MadeOwned {D : Type 0} (layouts : Layouts) (old : StoreView D) (t : Table D) (a : Account) (handle made : GcRootIndex) (new : StoreView D) : Type 0 where
@@ -29,14 +29,14 @@ MakesOwned layouts old t a handle (Err fault.RootsFull) new =
     (r : Reference) × (NamesReference old t handle r × ((owned_full t ≡ true) × HoldsAccount layouts new t a))
 MakesOwned layouts old t a handle (Err fault.Memory) new = HoldsAccount layouts new t a
 
--- the handle is of that owned root of the table
+-- the handle is one of that owned root of the table
 pub record IsHandleOf {D : Type 0} (s : StoreView D) (t : Table D) (handle : GcRootIndex) (root : Owned) : Type 0 where
   pub among : Contains t.owned root
   pub is : handle ≡ owned_handle s root.number
 
--- the handle is of no owned root that has handles
+-- the handle names nothing by an owned root
 abbrev pub IsOfNone : {D : Type 0} → StoreView D → Table D → GcRootIndex → Type 0
-IsOfNone s t handle = (root : Owned) → ¬ IsHandleOf s t handle root
+IsOfNone s t handle = (r : Reference) → ¬ NamesOwned s t handle r
 
 -- what one more handle of an owned root answers and leaves
 abbrev pub AddsHandle : {D : Type 0} → Layouts → StoreView D → Table D → Account → GcRootIndex → Result (Unit {0}) RootFault → StoreView D → Type 0

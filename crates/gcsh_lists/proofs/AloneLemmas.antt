@@ -1,6 +1,6 @@
 -- A version that stands alone: what it leaves where it is given up, and what is reached.
 use Rattle.std.proofs.Common.{inl, inr, ◌≡◌, ◌≢◌, ◌⊎◌, ◌-◌, ℕ, zero, suc, cond, true, false, List, [], ◌∷◌, ◌++◌, length, map, replicate, Option, Some, None, Contains, refl, sym, ap, ◌∙◌, subst, arith}
-use Rattle.std.specs.List.{flat_map, slice_get, sum_by}
+use Rattle.std.specs.List.{flat_map, sum_by}
 use Rattle.std.proofs.lemmas.Bool.{eq-eqb, ne_eqb}
 use Rattle.std.proofs.lemmas.List.{append-nil}
 use Rattle.std.proofs.lemmas.List.Elements.{Contains-append_cases, Contains-append_left, Contains-append_right}
@@ -8,12 +8,11 @@ use Rattle.std.proofs.lemmas.List.Sums.{sum_by-cons}
 use Rattle.gc_types.specs.declared.kind.Layouts.{Layouts}
 use Rattle.gc_types.specs.declared.kind.Layouts.TheVariants.{Null, Counting, Copying}
 use Rattle.gc_memory.proofs.ListLemmas.{only_item}
-use Rattle.gc_model.specs.OwnedRoots.{handles_changed, handled_roots}
+use Rattle.gc_model.specs.OwnedRoots.{owned_among, handles_changed, handled_roots}
 use Rattle.gc_model.specs.Reach.{HasNumber, IsKept, IsReached, NamesPosition, Reachable, Reached, by_start, by_step, owned_references, present, root_references, slot_references}
 use Rattle.gc_model.specs.Stores.{StoreView}
 use Rattle.gc_model.specs.Table.{Table, Owned, Scoped, null_slot, global_count, start}
 use Rattle.gc_model.specs.Values.{Reference, null, at}
-use Rattle.gc_model.proofs.Members.{get_contains}
 use Rattle.gc_policy.specs.Accounts.{Account, HoldsAccount}
 use Rattle.gc_policy.proofs.HeldSums.{sum_part}
 use Rattle.gc_values.specs.declared.root.GcRootIndex.{GcRootIndex}
@@ -58,9 +57,12 @@ module _ (layouts : Layouts) (s : StoreView ℕ) (t : Table ℕ) (a : Account) (
       ((λ i. handled_roots (handles_changed (number i) (λ m. m - 1) (there i))) ∙ drops_first handle.generation r (owned_of made r') ∙ kept_behind handle.generation made has_new differ) holds_new
   given_up (Some handle) r names alone (false, (none, holds_new)) =
       let there : after.owned ≡ owned_of (Some handle) r ++ owned_of made r' = owned ∙ owned_behind made has_new ∙ ap (λ (os : List Owned). os ++ owned_of made r') alone in
-      let root : Owned = record { number = handle.generation; reference = r; handles = 1 } in
       let named : handle ≡ owned_handle s handle.generation = names.names ∙ ap (owned_handle s) (sym (ap (λ (h : GcRootIndex). h.generation) names.names)) in
-      absurd (none root (record { among = get_contains after.owned 0 root (ap (λ (os : List Owned). slice_get os 0) there); is = named ∙ owned_same s mid handle.generation begun }))
+      absurd (none r (record {
+        number = handle.generation;
+        names = named ∙ owned_same s mid handle.generation begun;
+        live = ap (owned_among handle.generation) there ∙ ap (λ b. cond b (Some r) (owned_among handle.generation (owned_of made r'))) (eq-eqb handle.generation handle.generation refl);
+      }))
 
   -- it names what it named
   pub names_alone : (m : Option GcRootIndex) → VersionNames mid after m r' → VersionNames new (record after { owned = owned_of m r' }) m r'
