@@ -4,7 +4,8 @@ use Rattle.std.specs.FinMap as finite
 use Rattle.gc_types.specs.declared.kind.Layouts.TheVariants.{Copying}
 use Rattle.gc_types.specs.Declarations.{Declaration}
 use Rattle.gc_roots.specs.Roots.{Root}
-use Rattle.gc_heap.specs.Collection.{Start, CanCollect}
+use Rattle.gc_heap.specs.Collection.{Start, Stage, CanCollect, Collected, IsStepCount, Stepped}
+use Rattle.gc_heap.specs.declared.collection.GcProgress.{GcProgress}
 use Rattle.gc_copying.specs.declared.space.Space.{Space}
 use Rattle.gc_copying.specs.declared.heap.CopyingHeap.{CopyingHeap}
 use Rattle.gc_copying.specs.Backed.{CopyingBacking}
@@ -16,6 +17,7 @@ use Rattle.gc_copying.specs.Layout.{copying_first_place, places_in}
 use Rattle.gc_copying.specs.CopyStart.{From}
 use Rattle.gc_copying.specs.CopySteps.{words_of_roots}
 use Rattle.gc_copying.specs.CopyPhases.{CopyProgress, InPhase}
+use Rattle.gc_copying.specs.States.{copying_seen, IsCopyingSound}
 
 -- the start of a collection, in the bytes of a space
 abbrev pub start_in_bytes : Start → List ℕ → Bool → ℕ → ℕ → From
@@ -75,6 +77,15 @@ abbrev pub CopyingBetween : Start → ℕ → ℕ → ℕ → CopyingBacking →
 CopyingBetween s n counted scopes backing.Detached phase roots types hosts = ⊥
 CopyingBetween s n counted scopes (backing.Attached space) phase roots types hosts = CopyingBetweenIn s n counted scopes space phase roots types hosts
 CopyingBetween s n counted scopes (backing.Taken m) phase roots types hosts = ⊥
+
+-- the same of a heap and a phase
+abbrev pub HasCopied : Start → ℕ → ℕ → Stage CopyingHeap Phase → Type 0
+HasCopied s n counted at = CopyingBetween s n counted at.heap.scopes at.heap.backing at.state at.roots at.types at.hosts
+
+-- what an increment answers and leaves, with which the collection has done so many and counted so many steps
+abbrev pub CopiesMore : Start → ℕ → ℕ → GcProgress → Stage CopyingHeap Phase → Type 0
+CopiesMore s n counted answer at = Stepped Copying s n answer (HasCopied s n counted at)
+    (IsCopyingSound at.heap × IsStepCount Copying s counted × Collected Copying s (copying_seen at.heap) at.roots at.hosts)
 
 -- A collection that began there has done so many increments; where each was counted, their steps are known.
 pub record IsCopyingUnderWay (s : Start) (n : ℕ) (c : Bool) (h : CopyingHeap) (at : Phase) (ticks : ℕ) (roots : List Root) (types : List Declaration) (hosts : ℕ → Bool) : Type 0 where

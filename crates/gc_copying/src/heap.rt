@@ -13,12 +13,11 @@
 //! do nothing.
 
 ghost use Rattle.std.specs.Prelude.{ℕ, ◌≡◌, ◌+◌, ◌<◌, ◌≤◌};
-ghost use Rattle.gc_types.specs.declared.kind.Layouts.TheVariants.{Copying};
 ghost use Rattle.gc_view.specs.Heaps.{detached_in};
-ghost use Rattle.gc_heap.specs.Collection.{Start, has_host, IsPartOf, Collected, Stepped, IsStepCount};
+ghost use Rattle.gc_heap.specs.Collection.{Start, stage, IsPartOf};
 ghost use Rattle.gc_copying.specs.States.{copying_seen, IsCopyingSound};
 ghost use Rattle.gc_copying.specs.CopyPhases.{copying_left};
-ghost use Rattle.gc_copying.specs.CopyBetween.{CopyingBetween};
+ghost use Rattle.gc_copying.specs.CopyBetween.{HasCopied, CopiesMore};
 
 use crate::collection::CopyingCollection;
 use crate::copy::collect::Phase;
@@ -63,15 +62,12 @@ impl CopyingHeap {
         trace: &mut GcStoreTraceState<'_, D>,
         steps: &mut Steps<G>,
     ) -> GcProgress
-        requires { (s : Start) × ((n : ℕ) × ((counted : ℕ) × CopyingBetween s n counted self.old.scopes self.old.backing phase.old roots.old.roots
-            trace.old.types.now.declarations (has_host trace.old.host_data_table.now.entries))) }
-        ensures stepped { (s : Start) (n counted more : ℕ) → CopyingBetween s n counted self.old.scopes self.old.backing phase.old roots.old.roots
-            trace.old.types.now.declarations (has_host trace.old.host_data_table.now.entries) → steps.new ≡ steps.old + more
-            → Stepped Copying s (n + 1) result (CopyingBetween s (n + 1)
-            (counted + more) self.new.scopes self.new.backing phase.new roots.new.roots trace.old.types.now.declarations
-            (has_host trace.new.host_data_table.now.entries))
-            (IsCopyingSound self.new × IsStepCount Copying s (counted + more)
-            × Collected Copying s (copying_seen self.new) roots.new.roots (has_host trace.new.host_data_table.now.entries)) }
+        requires { (s : Start) × ((n : ℕ) × ((counted : ℕ)
+            × HasCopied s n counted (stage self.old phase.old roots.old.roots trace.old.types.now.declarations trace.old.host_data_table.now.entries))) }
+        ensures copies { (s : Start) (n counted more : ℕ)
+            → HasCopied s n counted (stage self.old phase.old roots.old.roots trace.old.types.now.declarations trace.old.host_data_table.now.entries)
+            → steps.new ≡ steps.old + more → CopiesMore s (n + 1) (counted + more) result
+            (stage self.new phase.new roots.new.roots trace.old.types.now.declarations trace.new.host_data_table.now.entries) }
         ensures less { result ≡ GcProgress.Continue → copying_left phase.new < copying_left phase.old }
         ensures rises { steps.old ≤ steps.new }
         ensures spare { roots.new.spare ≡ roots.old.spare }
@@ -103,16 +99,12 @@ impl CopyingHeap {
         requires name { blank.name ≡ L.name }
         requires parts { blank.parts ≡ L.parts }
         requires some { 0 < blank.parts }
-        requires between { (s : Start) × ((n : ℕ) × ((counted : ℕ)
-            × CopyingBetween s n counted self.old.scopes self.old.backing phase.old roots.old.roots trace.old.types.now.declarations
-            (has_host trace.old.host_data_table.now.entries))) }
-        ensures stepped { (s : Start) (n counted : ℕ) → CopyingBetween s n counted self.old.scopes self.old.backing phase.old roots.old.roots
-            trace.old.types.now.declarations (has_host trace.old.host_data_table.now.entries)
-            → (more : ℕ) × Stepped Copying s (n + 1) result (CopyingBetween s (n + 1)
-            (counted + more) self.new.scopes self.new.backing phase.new roots.new.roots trace.old.types.now.declarations
-            (has_host trace.new.host_data_table.now.entries))
-            (IsCopyingSound self.new × IsStepCount Copying s (counted + more)
-            × Collected Copying s (copying_seen self.new) roots.new.roots (has_host trace.new.host_data_table.now.entries)) }
+        requires copied { (s : Start) × ((n : ℕ) × ((counted : ℕ)
+            × HasCopied s n counted (stage self.old phase.old roots.old.roots trace.old.types.now.declarations trace.old.host_data_table.now.entries))) }
+        ensures copies { (s : Start) (n counted : ℕ)
+            → HasCopied s n counted (stage self.old phase.old roots.old.roots trace.old.types.now.declarations trace.old.host_data_table.now.entries)
+            → (more : ℕ) × CopiesMore s (n + 1) (counted + more) result
+            (stage self.new phase.new roots.new.roots trace.old.types.now.declarations trace.new.host_data_table.now.entries) }
         ensures less { result ≡ GcProgress.Continue → copying_left phase.new < copying_left phase.old }
         ensures spare { roots.new.spare ≡ roots.old.spare }
         ensures host_spare { trace.old.host_data_table.now.spare ≤ trace.new.host_data_table.now.spare }

@@ -14,6 +14,6 @@ returns-clause-step g c s n k u =
     let more : ℕ = c.collect_more-progress.new.steps - c.args.steps.now in
     let counts : c.collect_more-progress.new.steps ≡ c.args.steps.now + more = omega (arith, c.collect_more-progress.ensures.rises) in
     let told : k ≡ true → c.after-state.result.count ≡ u.counted + more = λ e. omega (arith, u.ticks_are e, c.of-before.ensures, c.of-now.ensures, c.after-state.ensures) in
-    stepped_as s (n + 1) c.collect_more-progress.result (c.collect_more-progress.ensures.stepped s n u.counted more u.between counts)
+    stepped_as s (n + 1) c.collect_more-progress.result (c.collect_more-progress.ensures.copies s n u.counted more u.between counts)
     (λ b. record { counted = u.counted + more; between = b; ticks_are = told })
     (λ t. (t.0, (λ e. subst (λ (x : ℕ). IsStepCount Copying s x) (sym (told e)) t.1), t.2))
