@@ -126,10 +126,25 @@ impl Heaps {
         if pages > MOST_PAGES {
             return Err(CaseFault::BadCase);
         }
+        let null = mutator(alloc, pages)?;
+        let counting = match mutator(alloc, pages) {
+            Ok(made) => made,
+            Err(fault) => {
+                drop(null);
+                return Err(fault);
+            }
+        };
+        let copying = match mutator(alloc, pages) {
+            Ok(made) => made,
+            Err(fault) => {
+                drop((null, counting));
+                return Err(fault);
+            }
+        };
         Ok(Heaps {
-            null: mutator(alloc, pages)?,
-            counting: mutator(alloc, pages)?,
-            copying: mutator(alloc, pages)?,
+            null,
+            counting,
+            copying,
         })
     }
 

@@ -23,6 +23,9 @@ use std::alloc::Global;
 /// The lowest byte of the count word of an object, and the heap's own three bits.
 type OwnWords = Option<(u8, u8)>;
 
+/// An object's own words before and after a collection, and how many objects and bytes are left by another.
+type Told = (OwnWords, OwnWords, u64, usize);
+
 fn own_words<H: GcHeap>(heap: &H, word: &VMGcRef) -> OwnWords
     requires { H.sound heap.now }
 {
@@ -60,43 +63,57 @@ fn show_queued<H: GcHeap>(
 
 /// Collects twice: while a frame slot holds an object that was queued before it was shown, and when
 /// the slot was left. Tells the object's own words before and after the first collection, and how many
-/// objects and bytes are left by the second.
+/// objects and bytes are left by the second. Around the heap nothing is rooted yet.
 fn collects_a_shown_one<H: GcHeap>(
     heap: &mut H,
     alloc: Global,
-) -> Result<(OwnWords, OwnWords, u64, usize), KindFault>
+    types: &mut Types,
+    roots: &mut GcRootsList,
+    hosts: &mut ExternRefHostDataTable<u8>,
+) -> Result<Told, KindFault>
     requires counting { H.KIND ≡ Layouts.Counting }
     requires sound { H.sound heap.old }
     requires detached { H.seen heap.old ≡ detached_in 0 }
+    requires roots { roots.old.roots ≡ [] }
     ensures sound { H.sound heap.new }
 {
     attach_counting(heap, alloc)?;
-    let mut types = Types::new(alloc, 1, 1);
     let ty = types.declare_struct(&[], None, true)?.index();
     let layout = types
         .struct_layout(Layouts::Counting, ty)
         .ok_or(KindFault::Unmet("no layout"))?;
     let word = show_queued(heap, layout, ty)?;
     let queued = own_words(heap, &word);
-    let mut roots = GcRootsList::new(alloc);
     roots.reserve(1)?;
     roots.add_wasm_stack_root(RootPlace { number: 0 }, word.unchecked_copy());
-    let mut hosts: ExternRefHostDataTable<u8> = ExternRefHostDataTable::new(alloc);
     let mut trace = GcStoreTraceState {
-        host_data_table: &mut hosts,
-        types: &types,
+        host_data_table: hosts,
+        types: &*types,
     };
-    run(heap, &mut roots, &mut trace);
+    run(heap, roots, &mut trace);
     let shown = own_words(heap, &word);
     roots.clear();
-    run(heap, &mut roots, &mut trace);
+    run(heap, roots, &mut trace);
     Ok((queued, shown, heap.object_count(), heap.allocated_bytes()))
 }
 
-/// What these collections did in a new heap.
-fn shown_in_new(alloc: Global) -> Result<(OwnWords, OwnWords, u64, usize), KindFault> {
+/// What these collections did in a heap with no memory.
+fn shown_in<H: GcHeap>(heap: &mut H, alloc: Global) -> Result<Told, KindFault>
+    requires counting { H.KIND ≡ Layouts.Counting }
+    requires sound { H.sound heap.old }
+    requires detached { H.seen heap.old ≡ detached_in 0 }
+    ensures sound { H.sound heap.new }
+{
+    let mut types = Types::new(alloc, 1, 1);
+    let mut roots = GcRootsList::new(alloc);
+    let mut hosts = ExternRefHostDataTable::new(alloc);
+    collects_a_shown_one(heap, alloc, &mut types, &mut roots, &mut hosts)
+}
+
+/// What they did in a new heap.
+fn shown_in_new(alloc: Global) -> Result<Told, KindFault> {
     let mut heap = DrcHeap::new(alloc);
-    collects_a_shown_one(&mut heap, alloc)
+    shown_in(&mut heap, alloc)
 }
 
 /// Writes what these collections did. The words are the lowest byte of the count word and the heap's own bits.

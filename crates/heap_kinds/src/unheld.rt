@@ -1,7 +1,6 @@
 //! The first two increments of a collection, which free by counts alone, and the third.
 
-ghost use Rattle.std.specs.Prelude.{ℕ, Bool, true, false, ◌≡◌, Some, List, [], OnOk, IfOk};
-ghost use Rattle.gc_types.specs.declared.types.Types.{Types};
+ghost use Rattle.std.specs.Prelude.{ℕ, Bool, true, false, ◌≡◌, Some, List, [], OnOk};
 ghost use Rattle.gc_types.specs.declared.kind.Layouts.TheVariants.{Counting};
 ghost use Rattle.gc_types.specs.Declarations.{Declaration};
 ghost use Rattle.gc_types.specs.Layouts.{layout_at};
@@ -43,17 +42,17 @@ fn drop_struct<H: GcHeap>(
     Ok(())
 }
 
-/// Makes a struct that names itself and a struct that nothing names. Gives the types.
-fn make_garbage<H: GcHeap>(heap: &mut H, alloc: Global) -> Result<Types, KindFault>
+/// Makes a struct that names itself and a struct that nothing names.
+fn make_garbage<H: GcHeap>(heap: &mut H, alloc: Global, types: &mut Types) -> Result<(), KindFault>
     requires counting { H.KIND ≡ Layouts.Counting }
     requires sound { H.sound heap.old }
     requires detached { H.seen heap.old ≡ detached_in 0 }
+    requires types { types.old.declarations ≡ [] }
     ensures sound { H.sound heap.new }
-    ensures can { IfOk result (λ (types : Types). (hosts : ℕ → Bool)
-        → CanCollect Counting (record { heap = H.seen heap.new; roots = []; types = types.declarations; hosts = hosts })) }
+    ensures can { OnOk result ((hosts : ℕ → Bool)
+        → CanCollect Counting (record { heap = H.seen heap.new; roots = []; types = types.new.declarations; hosts = hosts })) }
 {
     attach_counting(heap, alloc)?;
-    let mut types = Types::new(alloc, 1, 1);
     let field = FieldType {
         mutability: Mutability::Var,
         element_type: StorageType::ValType(ValType::Ref(RefType {
@@ -67,35 +66,52 @@ fn make_garbage<H: GcHeap>(heap: &mut H, alloc: Global) -> Result<Types, KindFau
         .ok_or(KindFault::Unmet("no layout"))?;
     make_cycle(heap, ty, layout)?;
     drop_struct(heap, ty, layout)?;
-    Ok(types)
+    Ok(())
 }
 
 /// Collects a struct that nothing names and one that names itself. Tells how many objects are left
-/// after two increments, and at the end.
-fn frees_by_counts_first(heap: &mut DrcHeap, alloc: Global) -> Result<(u64, u64), KindFault>
+/// after two increments, and at the end. Around the heap nothing is declared or rooted yet.
+fn frees_by_counts_first(
+    heap: &mut DrcHeap,
+    alloc: Global,
+    types: &mut Types,
+    roots: &mut GcRootsList,
+    hosts: &mut ExternRefHostDataTable<u8>,
+) -> Result<(u64, u64), KindFault>
     requires sound { IsDrcSound heap.old }
     requires detached { drc_seen heap.old ≡ detached_in 0 }
+    requires types { types.old.declarations ≡ [] }
+    requires roots { roots.old.roots ≡ [] }
 {
-    let types = make_garbage(heap, alloc)?;
-    let mut roots = GcRootsList::new(alloc);
-    let mut hosts: ExternRefHostDataTable<u8> = ExternRefHostDataTable::new(alloc);
+    make_garbage(heap, alloc, types)?;
     let mut trace = GcStoreTraceState {
-        host_data_table: &mut hosts,
-        types: &types,
+        host_data_table: hosts,
+        types: &*types,
     };
     let mut state = heap.begin();
-    heap.free_unheld(&mut state, &roots, &mut trace);
+    heap.free_unheld(&mut state, &*roots, &mut trace);
     let by_counts = heap.object_count();
-    match heap.step(&mut state, &mut roots, &mut trace) {
+    match heap.step(&mut state, roots, &mut trace) {
         GcProgress::Continue => Err(KindFault::Unmet("a fourth increment")),
         GcProgress::Complete => Ok((by_counts, heap.object_count())),
     }
 }
 
-/// How many objects are left in a new heap after two increments, and at the end.
+/// How many objects are left in a heap with no memory after two increments, and at the end.
+fn freed_in(heap: &mut DrcHeap, alloc: Global) -> Result<(u64, u64), KindFault>
+    requires sound { IsDrcSound heap.old }
+    requires detached { drc_seen heap.old ≡ detached_in 0 }
+{
+    let mut types = Types::new(alloc, 1, 1);
+    let mut roots = GcRootsList::new(alloc);
+    let mut hosts = ExternRefHostDataTable::new(alloc);
+    frees_by_counts_first(heap, alloc, &mut types, &mut roots, &mut hosts)
+}
+
+/// How many in a new heap.
 fn freed_in_new(alloc: Global) -> Result<(u64, u64), KindFault> {
     let mut heap = DrcHeap::new(alloc);
-    frees_by_counts_first(&mut heap, alloc)
+    freed_in(&mut heap, alloc)
 }
 
 /// Writes how many objects are left after two increments, and at the end.

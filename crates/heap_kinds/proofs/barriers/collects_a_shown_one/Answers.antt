@@ -11,32 +11,32 @@ use Rattle.gc_heap.proofs.AddedLemmas.{start}
 use Rattle.gc_heap.proofs.ClientLemmas.{can_collect_empty}
 use Rattle.heap_kinds.proofs.BarrierRuns.{slot_left}
 use Rattle.heap_kinds.proofs.barriers.collects_a_shown_one.Goals as goal
-use Rattle.heap_kinds.proofs.barriers.collects_a_shown_one.Goals.{After-new-hosts}
+use Rattle.heap_kinds.proofs.barriers.collects_a_shown_one.Goals.{After-add_wasm_stack_root}
 
 -- where the first collection begins
-abbrev first : (g : _) → After-new-hosts g → Start
-first g c = start_at (g.H.GcHeap.seen c.show_queued.new.heap) c.add_wasm_stack_root.new.self.roots c.declare_struct.new.self.declarations c.new-hosts.result.entries
+abbrev first : (g : _) → After-add_wasm_stack_root g → Start
+first g c = start_at (g.H.GcHeap.seen c.show_queued.new.heap) c.add_wasm_stack_root.new.self.roots c.declare_struct.new.self.declarations c.args.hosts.now.entries
 
-can_begin : (g : _) (c : After-new-hosts g) → CanCollect Counting (first g c)
+can_begin : (g : _) (c : After-add_wasm_stack_root g) → CanCollect Counting (first g c)
 can_begin g c =
     let types : List Declaration = c.declare_struct.new.self.declarations in
     let declared : layout_at Counting types c.index-ty.result ≡ Some c.in_ok-layout.layout.now = search rules in
-    rw (c.add_wasm_stack_root.ensures.roots, c.reserve.ensures.roots, c.new-roots.ensures, c.unchecked_copy.ensures)
-    (c.in_ok-word.ensures.can types (has_host c.new-hosts.result.entries) declared (rw c.in_ok-attach_counting.ensures.empty (can_collect_empty Counting types 65536 (has_host c.new-hosts.result.entries))))
+    rw (c.add_wasm_stack_root.ensures.roots, c.reserve.ensures.roots, c.requires.roots, c.unchecked_copy.ensures)
+    (c.in_ok-word.ensures.can types (has_host c.args.hosts.now.entries) declared (rw c.in_ok-attach_counting.ensures.empty (can_collect_empty Counting types 65536 (has_host c.args.hosts.now.entries))))
 
 -- its one root
-one_root : (g : _) (c : After-new-hosts g) → (first g c).roots ≡ root 0 true c.in_ok-word.word ∷ []
+one_root : (g : _) (c : After-add_wasm_stack_root g) → (first g c).roots ≡ root 0 true c.in_ok-word.word ∷ []
 one_root g c =
-    c.add_wasm_stack_root.ensures.roots ∙ ap₂ (λ (rs : List Root) (w : ℕ). rs ++ root 0 true w ∷ []) (c.reserve.ensures.roots ∙ c.new-roots.ensures) c.unchecked_copy.ensures
+    c.add_wasm_stack_root.ensures.roots ∙ ap₂ (λ (rs : List Root) (w : ℕ). rs ++ root 0 true w ∷ []) (c.reserve.ensures.roots ∙ c.requires.roots) c.unchecked_copy.ensures
 
 pub run-requires-clause-can : goal.run-requires-clause-can
 run-requires-clause-can g c =
-    let at = (goal.at.run-requires-clause-can g c).After-new-hosts in
+    let at = (goal.at.run-requires-clause-can g c).After-add_wasm_stack_root in
     subst (λ (l : Layouts). CanCollect l (first g at)) (sym c.requires.counting) (can_begin g at)
 
 pub run-requires-2-clause-can : goal.run-requires-2-clause-can
 run-requires-2-clause-can g c =
-    let at = (goal.at.run-requires-2-clause-can g c).After-new-hosts in
+    let at = (goal.at.run-requires-2-clause-can g c).After-add_wasm_stack_root in
     let seen = g.H.GcHeap.seen in
     let hosts : ℕ → Bool = has_host c.run.new.trace.host_data_table.now.entries in
     let heap : IsHeap Counting (seen c.show_queued.new.heap) =

@@ -11,20 +11,20 @@ use Rattle.heap_kinds.proofs.unheld.frees_by_counts_first.Goals as goal
 use Rattle.heap_kinds.proofs.unheld.frees_by_counts_first.Goals.{After-begin-state, After-free_unheld}
 
 pub begin-state-requires-clause-attached : goal.begin-state-requires-clause-attached
-begin-state-requires-clause-attached c = (c.in_ok-types.ensures.can (λ _. true)).attached
+begin-state-requires-clause-attached c = (c.in_ok-make_garbage.ensures.can (λ _. true)).attached
 
 pub begin-state-requires-clause-open : goal.begin-state-requires-clause-open
-begin-state-requires-clause-open c = (c.in_ok-types.ensures.can (λ _. true)).open_scopes
+begin-state-requires-clause-open c = (c.in_ok-make_garbage.ensures.can (λ _. true)).open_scopes
 
 -- where the collection begins
 abbrev starts_at : After-begin-state → Start
-starts_at c = record { heap = drc_seen c.make_garbage.new.heap; roots = c.new-roots.result.roots; types = c.in_ok-types.types.declarations; hosts = has_host c.new-hosts.result.entries }
+starts_at c = record { heap = drc_seen c.make_garbage.new.heap; roots = c.args.roots.now.roots; types = c.make_garbage.new.types.declarations; hosts = has_host c.args.hosts.now.entries }
 
-begun : (c : After-begin-state) → HasDone (starts_at c) 0 c.make_garbage.new.heap c.begin-state.result c.new-roots.result.roots c.in_ok-types.types.declarations (has_host c.new-hosts.result.entries)
+begun : (c : After-begin-state) → HasDone (starts_at c) 0 c.make_garbage.new.heap c.begin-state.result c.args.roots.now.roots c.make_garbage.new.types.declarations (has_host c.args.hosts.now.entries)
 begun c =
     drc_starts (starts_at c) c.make_garbage.new.heap c.begin-state.result c.make_garbage.ensures.sound c.begin-state.ensures.begun refl
-    (subst (λ (rs : List Root). CanCollect Counting (record { heap = drc_seen c.make_garbage.new.heap; roots = rs; types = c.in_ok-types.types.declarations; hosts = has_host c.new-hosts.result.entries }))
-    (sym c.new-roots.ensures) (c.in_ok-types.ensures.can (has_host c.new-hosts.result.entries)))
+    (subst (λ (rs : List Root). CanCollect Counting (record { heap = drc_seen c.make_garbage.new.heap; roots = rs; types = c.make_garbage.new.types.declarations; hosts = has_host c.args.hosts.now.entries }))
+    (sym c.requires.roots) (c.in_ok-make_garbage.ensures.can (has_host c.args.hosts.now.entries)))
 
 pub free_unheld-requires : goal.free_unheld-requires
 free_unheld-requires c =
@@ -32,10 +32,10 @@ free_unheld-requires c =
     (starts_at b, begun b)
 
 -- two increments were done, of the types as they were
-two : (c : After-free_unheld) (b : After-begin-state) → HasDone (starts_at b) 0 c.make_garbage.new.heap c.begin-state.result c.new-roots.result.roots c.in_ok-types.types.declarations (has_host c.new-hosts.result.entries)
-    → HasDone (starts_at b) 2 c.free_unheld.new.self c.free_unheld.new.state c.new-roots.result.roots c.free_unheld.new.trace.types.now.declarations (has_host c.free_unheld.new.trace.host_data_table.now.entries)
+two : (c : After-free_unheld) (b : After-begin-state) → HasDone (starts_at b) 0 c.make_garbage.new.heap c.begin-state.result c.args.roots.now.roots c.make_garbage.new.types.declarations (has_host c.args.hosts.now.entries)
+    → HasDone (starts_at b) 2 c.free_unheld.new.self c.free_unheld.new.state c.args.roots.now.roots c.free_unheld.new.trace.types.now.declarations (has_host c.free_unheld.new.trace.host_data_table.now.entries)
 two c b first =
-    subst (λ types. HasDone (starts_at b) 2 c.free_unheld.new.self c.free_unheld.new.state c.new-roots.result.roots types.now.declarations (has_host c.free_unheld.new.trace.host_data_table.now.entries))
+    subst (λ types. HasDone (starts_at b) 2 c.free_unheld.new.self c.free_unheld.new.state c.args.roots.now.roots types.now.declarations (has_host c.free_unheld.new.trace.host_data_table.now.entries))
     (sym c.free_unheld.ensures.types) (c.free_unheld.ensures.under_way (starts_at b) first)
 
 pub step-requires : goal.step-requires
