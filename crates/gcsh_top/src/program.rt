@@ -53,7 +53,7 @@ failed; 3 the output failed; 4 the input is over 16777216 bytes; 5 no memory.
 ";
 
 /// What `--version` shows.
-pub const VERSION: &str = concat!("gcsh ", "0.9.3", "\n");
+pub const VERSION: &str = concat!("gcsh ", "0.9.4", "\n");
 
 /// The status that the program ends with. [`gcsh_main`] alone makes one, and none can be dropped, so a `main`
 /// that returns one ends with what `gcsh_main` answered.
