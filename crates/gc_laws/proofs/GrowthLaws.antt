@@ -9,11 +9,11 @@ use Rattle.gc_view.specs.Sizes.{alignment, need_of}
 use Rattle.gc_model.specs.Reach.{AreAll, IsKept}
 use Rattle.gc_view.specs.Pages.{page}
 use Rattle.gc_model.specs.Allocation.{FitsBump, Limits, asked, skipped, MayHave, MayRefuse}
-use Rattle.gc_policy.specs.Accounts.{Account, is_due}
+use Rattle.gc_model.specs.Accounts.{Account, is_due}
 use Rattle.gc_owner.specs.Growing as growth
 use Rattle.gc_owner.specs.Growing.{AsksFirst, AsksPages}
-use Rattle.gc_policy.specs.Policy.{PolicyState, FitsNow, LacksNow, CollectsTable, ReadiesTable, GrowsTable, MakesTable, Dues, Prepares, ExpandsTable, table_rules, table_after, table_made, block_bytes_at, allocated_bytes, turned, count_try, tried, nothing, grows}
-use Rattle.gc_policy.specs.Policy as policy
+use Rattle.gc_model.specs.Policy.{PolicyState, FitsNow, LacksNow, CollectsTable, ReadiesTable, GrowsTable, MakesTable, Dues, Prepares, ExpandsTable, table_rules, table_after, table_made, block_bytes_at, allocated_bytes, turned, count_try, tried, nothing, grows}
+use Rattle.gc_model.specs.Policy as policy
 use Rattle.gc_store.specs.Expansion.{MayCollectTable}
 use Rattle.gc_laws.proofs.SumLemmas.{same_sums}
 use Rattle.gc_laws.proofs.RetryLaws.{differ, Decides, retries_alike}

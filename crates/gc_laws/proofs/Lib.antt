@@ -19,3 +19,5 @@ pub mod HeldLaws
 pub mod StaleLaws
 pub mod RootedLaws
 pub mod WrittenLaws
+pub mod StepKeeps
+pub mod OwnedKept

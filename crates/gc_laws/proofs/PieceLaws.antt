@@ -6,7 +6,7 @@ use Rattle.gc_types.specs.declared.kind.Layouts.{Layouts}
 use Rattle.gc_model.specs.Allocation.{Limits}
 use Rattle.gc_model.specs.Table.{Table, start, usual_roots}
 use Rattle.gc_owner.specs.Limiters.{fresh_limits}
-use Rattle.gc_policy.specs.Accounts.{no_account}
+use Rattle.gc_model.specs.Accounts.{no_account}
 use Rattle.gc_commands.specs.declared.command.Command.{Command}
 use Rattle.gc_commands.specs.declared.reply.Reply.{Reply}
 use Rattle.gc_script.specs.Cutting.{EndsWhole}

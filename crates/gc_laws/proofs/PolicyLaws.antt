@@ -14,8 +14,8 @@ use Rattle.gc_commands.specs.declared.reply.Reply.{Reply}
 use Rattle.gc_commands.specs.declared.reply.Reply.TheVariants as reply
 use Rattle.gc_commands.specs.declared.reply.Refusal.{Refusal}
 use Rattle.gc_commands.specs.declared.reply.Refusal.TheVariants as refusal
-use Rattle.gc_policy.specs.Accounts.{Account, with_held}
-use Rattle.gc_policy.specs.Policy.{PolicyState, Prepares, ExpandsTable}
+use Rattle.gc_model.specs.Accounts.{Account, with_held}
+use Rattle.gc_model.specs.Policy.{PolicyState, Prepares, ExpandsTable}
 use Rattle.gc_script.specs.State.{State, reference, with_heap, with_account, with_table, set_register, visible, over}
 use Rattle.gc_script.specs.Shapes.{CommandShape, plain, declaring, making, growing, collecting, showing, shape}
 use Rattle.gc_script.specs.Steps.{Step, AnswersShape, Does, AnswersDeclare, declared, bad, MakesNew, made, lacks, AnswersGrow, grown, refused, tests, first_failing}

@@ -7,7 +7,7 @@ use Rattle.gc_model.specs.Allocation.{Limits}
 use Rattle.gc_model.specs.Table.{Table}
 use Rattle.gc_model.specs.Values.{Object}
 use Rattle.gc_store.specs.Expansion.{MayCollectTable}
-use Rattle.gc_policy.specs.Policy.{PolicyState}
+use Rattle.gc_model.specs.Policy.{PolicyState}
 use Rattle.gc_commands.specs.declared.command.Command.{Command}
 use Rattle.gc_commands.specs.declared.reply.Reply.{Reply}
 use Rattle.gc_commands.specs.declared.reply.Refusal.{Refusal}

@@ -11,10 +11,10 @@ use Rattle.gc_model.specs.Sizes.{object_size}
 use Rattle.gc_model.specs.Allocation.{Limits}
 use Rattle.gc_view.specs.Sizes.{need_of}
 use Rattle.gc_view.specs.Reach.{by_start, by_step}
-use Rattle.gc_policy.specs.Accounts.{Account, no_account}
+use Rattle.gc_model.specs.Accounts.{Account, no_account}
 use Rattle.gc_owner.specs.Retry.{Retry, at_once, after_collection, after_both, after_growth, after_refusal}
-use Rattle.gc_policy.specs.Policy as policy
-use Rattle.gc_policy.specs.Policy.{PolicyState, CollectsTable, ReadiesTable, GrowsTable, MakesTable, Dues, Prepares, ExpandsTable, table_rules, table_after, table_made, count_try}
+use Rattle.gc_model.specs.Policy as policy
+use Rattle.gc_model.specs.Policy.{PolicyState, CollectsTable, ReadiesTable, GrowsTable, MakesTable, Dues, Prepares, ExpandsTable, table_rules, table_after, table_made, count_try}
 use Rattle.gc_store.specs.Expansion.{MayCollectTable}
 use Rattle.gc_commands.specs.declared.command.Command.{Command}
 use Rattle.gc_commands.specs.declared.reply.Reply.{Reply}

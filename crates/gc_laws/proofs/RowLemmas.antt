@@ -14,10 +14,10 @@ use Rattle.gc_model.specs.Values.{numeric, i32, Object, struct}
 use Rattle.gc_model.specs.Table.{Table, start, usual_roots, declare, make, make_heap, with_pages}
 use Rattle.gc_model.specs.Allocation.{Limits, no_heap, no_room, FitsIn, same}
 use Rattle.gc_model.specs.Sizes.{object_size}
-use Rattle.gc_policy.specs.Accounts.{Account, no_account, counted, with_held}
+use Rattle.gc_model.specs.Accounts.{Account, no_account, counted, with_held}
 use Rattle.gc_owner.specs.Limiters.{fresh_limits}
 use Rattle.gc_owner.specs.Growing as growth
-use Rattle.gc_policy.specs.Policy.{PolicyState, policy_state, Prepares, tried}
+use Rattle.gc_model.specs.Policy.{PolicyState, policy_state, Prepares, tried}
 use Rattle.gc_owner.specs.Retry.{at_once}
 use Rattle.gc_commands.specs.declared.command.Command.{Command}
 use Rattle.gc_commands.specs.declared.command.Command.TheVariants.{Bad, Struct, New, Field}

@@ -19,7 +19,7 @@ use Rattle.gc_commands.specs.declared.reply.Reply.{Reply}
 use Rattle.gc_commands.specs.declared.reply.Reply.TheVariants as reply
 use Rattle.gc_commands.specs.declared.reply.Refusal.{Refusal}
 use Rattle.gc_commands.specs.declared.reply.Refusal.TheVariants as refusal
-use Rattle.gc_policy.specs.Accounts.{Account}
+use Rattle.gc_model.specs.Accounts.{Account}
 use Rattle.gc_script.specs.State.{State, reference, with_heap, with_table, set_register, visible}
 use Rattle.gc_script.specs.Built.{is_built}
 use Rattle.gc_script.specs.Shapes.{CommandShape, plain, declaring, making, growing, collecting, of_objects, of_increments, showing, shape, given_struct, new_exception, filled_array, new_fixed, new_bytes}

@@ -17,7 +17,7 @@ use Rattle.gc_model.specs.Globals.{global_at}
 use Rattle.gc_model.specs.Live.{rooted_among}
 use Rattle.gc_model.specs.Sizes.{exn_fields_at}
 use Rattle.gc_rooted.proofs.GoneRoots.{not_same}
-use Rattle.gc_policy.specs.Accounts.{Account}
+use Rattle.gc_model.specs.Accounts.{Account}
 use Rattle.gc_commands.specs.declared.command.Command.{Command}
 use Rattle.gc_commands.specs.declared.command.Command.TheVariants.{Bad, New, NewExn, NewArr, Fixed, NewBytes, ReadBytes, Host, I31, Field, Elem, Len, HostNumber, SetField, SetElem, Eq, Store, Load, SetGlobal, GetGlobal, Own, Root, Throw, Take, Struct, Array, Exn, Gc, GcDrop, GcInc, Grow, Cap}
 use Rattle.gc_commands.specs.declared.command.Operand.{Operand}

@@ -17,7 +17,7 @@ use Rattle.gc_model.proofs.Members.{map_among, among_map}
 use Rattle.gc_view.specs.Reach.{by_start}
 use Rattle.gc_store.specs.Requests.{element_of}
 use Rattle.gc_rooted.proofs.GoneRoots.{gone_push, below_differs}
-use Rattle.gc_policy.specs.Accounts.{Account}
+use Rattle.gc_model.specs.Accounts.{Account}
 use Rattle.gc_commands.specs.declared.command.Command.{Command}
 use Rattle.gc_commands.specs.declared.command.Command.TheVariants.{New, NewExn, NewArr, Fixed, NewBytes, Host}
 use Rattle.gc_commands.specs.declared.reply.Reply.{Reply}

@@ -3,7 +3,7 @@ use Rattle.std.proofs.Common.{◌≡◌, ℕ, List, [], ◌∷◌, map, length, 
 use Rattle.std.specs.List.{sum_by}
 use Rattle.std.proofs.lemmas.List.Sums.{sum_by-cons, sum-map}
 use Rattle.gc_model.specs.Reach.{AreAll, HasNumber}
-use Rattle.gc_policy.proofs.HeldSums.{sum_part}
+use Rattle.gc_model.proofs.HeldSums.{sum_part}
 
 -- two lists of all elements of one set have equal sums
 pub same_sums : (IsIn : ℕ → Type 0) (xs ys : List ℕ) → AreAll IsIn xs → AreAll IsIn ys → (f : ℕ → ℕ) → sum (map f xs) ≡ sum (map f ys)

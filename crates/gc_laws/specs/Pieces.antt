@@ -4,7 +4,7 @@ use Rattle.gc_types.specs.declared.kind.Layouts.{Layouts}
 use Rattle.gc_model.specs.Allocation.{Limits}
 use Rattle.gc_model.specs.Table.{Table, start, usual_roots}
 use Rattle.gc_owner.specs.Limiters.{fresh_limits}
-use Rattle.gc_policy.specs.Accounts.{no_account}
+use Rattle.gc_model.specs.Accounts.{no_account}
 use Rattle.gc_script.specs.Lines.{lines}
 use Rattle.gc_script.specs.Session.{SessionFrom}
 use Rattle.gc_script.specs.State.{State, begin}

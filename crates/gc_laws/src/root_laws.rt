@@ -9,7 +9,7 @@ ghost use Rattle.gc_model.specs.Allocation.{Limits};
 ghost use Rattle.gc_model.specs.Values.{Value, Object};
 ghost use Rattle.gc_model.specs.Table.{Table, start};
 ghost use Rattle.gc_model.specs.Reach.{IsReached, IsHost, HasNumber};
-ghost use Rattle.gc_policy.specs.Accounts.{Account, no_account};
+ghost use Rattle.gc_model.specs.Accounts.{Account, no_account};
 ghost use Rattle.gc_commands.specs.declared.command.Command.{Command};
 ghost use Rattle.gc_commands.specs.declared.reply.Reply.{Reply};
 ghost use Rattle.gc_commands.specs.declared.reply.Reply.TheVariants as reply;

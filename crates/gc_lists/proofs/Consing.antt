@@ -24,8 +24,8 @@ use Rattle.gc_model.specs.OwnedRoots.{own}
 use Rattle.gc_model.specs.Allocation.{Limits, LacksMemory, no_heap, no_room, too_large}
 use Rattle.gc_model.specs.Stores.{StoreView}
 use Rattle.gc_model.specs.Holds.{HoldsTable}
-use Rattle.gc_policy.specs.Accounts.{Account, HoldsAccount, with_held}
-use Rattle.gc_policy.specs.Policy.{PolicyState, policy_state}
+use Rattle.gc_model.specs.Accounts.{Account, HoldsAccount, with_held}
+use Rattle.gc_model.specs.Policy.{PolicyState, policy_state}
 use Rattle.gc_values.specs.declared.root.GcRootIndex.{GcRootIndex}
 use Rattle.gc_values.specs.declared.root.RawValue.{RawValue}
 use Rattle.gc_values.specs.declared.root.RawValue.TheVariants as raw

@@ -14,7 +14,7 @@ use Rattle.gc_types.specs.declared.value.FieldType.{FieldType}
 use Rattle.gc_model.proofs.Lists.{slice_get-push_new}
 use Rattle.gc_model.specs.Table.{Table, declare}
 use Rattle.gc_model.specs.Stores.{StoreView}
-use Rattle.gc_policy.specs.Accounts.{Account, HoldsAccount}
+use Rattle.gc_model.specs.Accounts.{Account, HoldsAccount}
 use Rattle.gc_store.specs.Stores.{Declares}
 use Rattle.gc_lists.specs.Kits.{MakesKit, cell_fields, cell_type, node_fields, node_type}
 

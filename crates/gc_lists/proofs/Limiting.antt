@@ -9,8 +9,8 @@ use Rattle.gc_owner.specs.Growing.{AsksFirst, AsksPages}
 use Rattle.gc_owner.specs.Growing as growth
 use Rattle.gc_owner.specs.Retry.{Growing, Paused, Retry}
 use Rattle.gc_owner.specs.Retry as retry
-use Rattle.gc_policy.specs.Policy.{CollectsTable, Dues, GrowsTable, MakesTable, PolicyState, Prepared, Prepares, ReadiesTable, count_try, table_rules}
-use Rattle.gc_policy.specs.Policy as policy
+use Rattle.gc_model.specs.Policy.{CollectsTable, Dues, GrowsTable, MakesTable, PolicyState, Prepared, Prepares, ReadiesTable, count_try, table_rules}
+use Rattle.gc_model.specs.Policy as policy
 use Rattle.gc_values.specs.declared.root.GcRootIndex.{GcRootIndex}
 use Rattle.gc_values.specs.declared.faults.PlaceFault.{PlaceFault}
 use Rattle.gc_values.specs.declared.faults.PlaceFault.TheVariants as place_fault

@@ -12,8 +12,8 @@ use Rattle.gc_owner.specs.Growing.{AsksFirst, AsksPages}
 use Rattle.gc_owner.specs.Growing as growth
 use Rattle.gc_owner.specs.Retry.{Retry}
 use Rattle.gc_owner.specs.Retry as retry
-use Rattle.gc_policy.specs.Policy.{GrowsTable, MakesTable, PolicyState, Prepares, count_try, table_rules}
-use Rattle.gc_policy.specs.Policy as policy
+use Rattle.gc_model.specs.Policy.{GrowsTable, MakesTable, PolicyState, Prepares, count_try, table_rules}
+use Rattle.gc_model.specs.Policy as policy
 use Rattle.gc_store.specs.Places.{LacksPlace, size_in_table}
 use Rattle.gc_lists.specs.Refusals.{CountsOn, RefusedInCall}
 use Rattle.gc_lists.proofs.Limiting.{collects_tell, counts_same, counts_twice, dues_tell, makes_tell, readies_tell, tells_same}

@@ -16,7 +16,7 @@ use Rattle.gc_model.specs.OwnedRoots.{own, owned_among}
 use Rattle.gc_model.specs.Stores.{StoreView}
 use Rattle.gc_model.specs.Holds.{HoldsTable}
 use Rattle.gc_model.proofs.Lists.{slice_get-push_new}
-use Rattle.gc_policy.specs.Accounts.{Account, HoldsAccount}
+use Rattle.gc_model.specs.Accounts.{Account, HoldsAccount}
 use Rattle.gc_values.specs.declared.root.GcRootIndex.{GcRootIndex}
 use Rattle.gc_store.specs.Roots.{handle_of, NamesReference}
 use Rattle.gc_lists.specs.Frames.{CountsStay, ChangesOwned, Leaves}

@@ -12,8 +12,8 @@ use Rattle.gc_model.specs.Live.{roots_full}
 use Rattle.gc_model.specs.Reads.{after_read}
 use Rattle.gc_model.specs.Stores.{StoreView}
 use Rattle.gc_model.specs.Holds.{HoldsTable}
-use Rattle.gc_policy.specs.Accounts.{Account, HoldsAccount}
-use Rattle.gc_policy.proofs.AccountLemmas.{some_account}
+use Rattle.gc_model.specs.Accounts.{Account, HoldsAccount}
+use Rattle.gc_model.proofs.AccountLemmas.{some_account}
 use Rattle.gc_values.specs.declared.root.GcRootIndex.{GcRootIndex}
 use Rattle.gc_values.specs.declared.root.RawValue.{RawValue}
 use Rattle.gc_values.specs.declared.root.RootFault.{RootFault}

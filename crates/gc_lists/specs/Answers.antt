@@ -7,8 +7,8 @@ use Rattle.gc_model.specs.Table.{Table, Owned}
 use Rattle.gc_model.specs.OwnedRoots.{own, owned_full}
 use Rattle.gc_model.specs.Allocation.{Limits}
 use Rattle.gc_model.specs.Stores.{StoreView}
-use Rattle.gc_policy.specs.Accounts.{Account, HoldsAccount}
-use Rattle.gc_policy.specs.Policy.{PolicyState}
+use Rattle.gc_model.specs.Accounts.{Account, HoldsAccount}
+use Rattle.gc_model.specs.Policy.{PolicyState}
 use Rattle.gc_values.specs.declared.root.GcRootIndex.{GcRootIndex}
 use Rattle.gc_store.specs.OwnedRoots.{DropsHandle}
 use Rattle.gc_store.specs.Places.{LacksPlace}

@@ -5,7 +5,7 @@ use Rattle.gc_model.specs.Values.{Object}
 use Rattle.gc_model.specs.Allocation.{MayHave}
 use Rattle.gc_model.specs.Table.{Table, Owned, Push, made_pages}
 use Rattle.gc_model.specs.Stores.{StoreView}
-use Rattle.gc_policy.specs.Accounts.{Account, HoldsAccount}
+use Rattle.gc_model.specs.Accounts.{Account, HoldsAccount}
 use Rattle.gc_lists.specs.declared.kit.Kit.{Kit}
 use Rattle.gc_lists.specs.Cells.{IsOfKit}
 

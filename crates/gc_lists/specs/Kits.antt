@@ -10,7 +10,7 @@ use Rattle.gc_types.specs.declared.value.FieldType.{FieldType}
 use Rattle.gc_types.specs.Declarations.{Declaration, constant_field, struct_type, max_types}
 use Rattle.gc_model.specs.Table.{Table, declare}
 use Rattle.gc_model.specs.Stores.{StoreView}
-use Rattle.gc_policy.specs.Accounts.{Account, HoldsAccount}
+use Rattle.gc_model.specs.Accounts.{Account, HoldsAccount}
 use Rattle.gc_lists.specs.declared.kit.Kit.{Kit}
 
 -- a reference to a struct of that type, or null

@@ -9,7 +9,7 @@ use Rattle.gc_model.specs.Live.{roots_full}
 use Rattle.gc_model.specs.Reads.{after_read}
 use Rattle.gc_model.specs.Stores.{StoreView}
 use Rattle.gc_model.specs.Holds.{HoldsTable}
-use Rattle.gc_policy.specs.Accounts.{Account, HoldsAccount}
+use Rattle.gc_model.specs.Accounts.{Account, HoldsAccount}
 use Rattle.gc_values.specs.declared.root.GcRootIndex.{GcRootIndex}
 use Rattle.gc_store.specs.Roots.{NamesReference}
 use Rattle.gc_store.specs.Slots.{HandleStands}

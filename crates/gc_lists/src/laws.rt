@@ -6,7 +6,7 @@ ghost use Rattle.gc_model.specs.Allocation.{MayHave};
 ghost use Rattle.gc_model.specs.Stores.{StoreView};
 ghost use Rattle.gc_model.specs.Table.{Owned, Table};
 ghost use Rattle.gc_model.specs.Values.{Reference};
-ghost use Rattle.gc_policy.specs.Accounts.{Account, HoldsAccount};
+ghost use Rattle.gc_model.specs.Accounts.{Account, HoldsAccount};
 ghost use Rattle.gc_store.specs.Stores.{IsSameStore};
 ghost use Rattle.gc_values.specs.declared.root.GcRootIndex.{GcRootIndex};
 ghost use Rattle.gc_lists.specs.Answers.{AreApart, HasNewRoot, LeavesVersion, Releases};

@@ -3,8 +3,8 @@
 ghost use Rattle.std.specs.Prelude.{◌≡◌, ◌&&◌, ℕ, ℤ, List, Ok, Err, OnErr, true, false, IsErrOf, MatchResult, slice_get};
 ghost use Rattle.gc_model.specs.Holds.{HoldsTable};
 ghost use Rattle.gc_model.specs.Table.{Table};
-ghost use Rattle.gc_policy.specs.Accounts.{Account, HoldsAccount};
-ghost use Rattle.gc_policy.specs.Policy.{policy_state};
+ghost use Rattle.gc_model.specs.Accounts.{Account, HoldsAccount};
+ghost use Rattle.gc_model.specs.Policy.{policy_state};
 ghost use Rattle.gc_store.specs.Stores.{IsSameStore};
 ghost use Rattle.gc_lists.specs.Answers.{Conses, Copied, FailsToCopy, Releases, Tails};
 ghost use Rattle.gc_lists.specs.Kits.{KitStands, is_kit_of};

@@ -3,7 +3,7 @@
 ghost use Rattle.std.specs.Prelude.{◌≡◌, MatchResult, OnErr, false, true};
 ghost use Rattle.gc_model.specs.Table.{Table, leave};
 ghost use Rattle.gc_model.specs.Values.{Reference};
-ghost use Rattle.gc_policy.specs.Accounts.{Account, HoldsAccount};
+ghost use Rattle.gc_model.specs.Accounts.{Account, HoldsAccount};
 ghost use Rattle.gc_store.specs.Roots.{NamesReference, is_of_store};
 ghost use Rattle.gc_store.specs.Stores.{IsSameStore};
 ghost use Rattle.gc_lists.specs.Answers.{KeepsRoot, Releases};

@@ -2,7 +2,7 @@
 
 ghost use Rattle.std.specs.Prelude.{◌≡◌, ℕ, ℤ, List, MatchResult};
 ghost use Rattle.gc_model.specs.Table.{Table};
-ghost use Rattle.gc_policy.specs.Accounts.{Account, HoldsAccount};
+ghost use Rattle.gc_model.specs.Accounts.{Account, HoldsAccount};
 ghost use Rattle.gc_store.specs.Stores.{IsSameStore};
 ghost use Rattle.gc_lists.specs.Progress.{IsCellIn, NamesCell, Steps, StopsWalk, WalkedAll};
 ghost use Rattle.gc_lists.specs.Versions.{IsListIn, StandsForList};

@@ -10,8 +10,8 @@ use Rattle.gc_owner.specs.Limiters.{Refuses}
 use Rattle.gc_owner.specs.Growing.{AsksFirst, AsksPages}
 use Rattle.gc_owner.specs.Growing as growth
 use Rattle.gc_owner.specs.Retry.{Retry, at_once, after_collection, after_both, after_growth, after_refusal}
-use Rattle.gc_policy.specs.Policy.{PolicyState, CollectsTable, GrowsTable, MakesTable, Prepares, table_after, table_made, table_rules}
-use Rattle.gc_policy.specs.Policy as policy
+use Rattle.gc_model.specs.Policy.{PolicyState, CollectsTable, GrowsTable, MakesTable, Prepares, table_after, table_made, table_rules}
+use Rattle.gc_model.specs.Policy as policy
 
 -- A limiter was asked for nothing that it refused, which is so where all went well, or more pages would be more than
 -- a heap may have; or it refused more pages; or the first ones. The numbers are those of the heap afterwards.

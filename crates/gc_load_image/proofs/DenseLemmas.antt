@@ -9,8 +9,8 @@ use Rattle.gc_model.specs.Table.{Table}
 use Rattle.gc_model.specs.Allocation.{Limits}
 use Rattle.gc_view.specs.Sizes.{need_of}
 use Rattle.gc_owner.specs.Retry.{Retry, at_once, after_collection, after_both, after_growth, after_refusal}
-use Rattle.gc_policy.specs.Policy as policy
-use Rattle.gc_policy.specs.Policy.{PolicyState, CollectsTable, ReadiesTable, GrowsTable, MakesTable, Dues, Prepares, table_rules, table_after, table_made, count_try}
+use Rattle.gc_model.specs.Policy as policy
+use Rattle.gc_model.specs.Policy.{PolicyState, CollectsTable, ReadiesTable, GrowsTable, MakesTable, Dues, Prepares, table_rules, table_after, table_made, count_try}
 use Rattle.gc_load_image.specs.Stages.{IsDense}
 
 -- the types and the objects, and that these lie so

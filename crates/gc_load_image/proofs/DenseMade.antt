@@ -17,7 +17,7 @@ use Rattle.gc_model.specs.Reach.{Reached, root_references}
 use Rattle.gc_model.specs.Sizes.{block_bytes, object_size}
 use Rattle.gc_model.specs.Values.{Reference, Object}
 use Rattle.gc_model.specs.Words.{Placing, placed_at}
-use Rattle.gc_policy.specs.Policy.{IsPlaceIn, PolicyState}
+use Rattle.gc_model.specs.Policy.{IsPlaceIn, PolicyState}
 use Rattle.gc_image.specs.declared.image.ObjectLine.{ObjectLine}
 use Rattle.gc_load_image.specs.Stages.{IsDense, early_objects, dense_start}
 use Rattle.gc_load_image.proofs.DenseLemmas.{Lies}

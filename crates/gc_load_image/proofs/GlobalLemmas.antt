@@ -12,7 +12,7 @@ use Rattle.gc_model.specs.Values.{Reference, null, small, at, reference}
 use Rattle.gc_model.proofs.Changes.{slice_get-set_other, slice_get-set_same}
 use Rattle.gc_model.proofs.Lists.{slice_get-take}
 use Rattle.gc_owner.specs.declared.entry.GcClass.{GcClass}
-use Rattle.gc_policy.specs.Accounts.{Account, HoldsAccount}
+use Rattle.gc_model.specs.Accounts.{Account, HoldsAccount}
 use Rattle.gc_store.specs.declared.globals.SlotFault.{SlotFault}
 use Rattle.gc_store.specs.declared.globals.SlotFault.TheVariants as slot_fault
 use Rattle.gc_values.specs.declared.root.GcRootIndex.{GcRootIndex}

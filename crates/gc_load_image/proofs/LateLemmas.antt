@@ -18,7 +18,7 @@ use Rattle.gc_model.specs.Table.{Table, with_value, write}
 use Rattle.gc_model.specs.Values.{Reference, at, Value, reference, Object}
 use Rattle.gc_model.proofs.Changes.{length-change_at, slice_get-change_at_other, slice_get-change_at_same, slice_get-set_other, slice_get-set_same}
 use Rattle.gc_owner.specs.declared.entry.GcClass.{GcClass}
-use Rattle.gc_policy.specs.Accounts.{Account, HoldsAccount}
+use Rattle.gc_model.specs.Accounts.{Account, HoldsAccount}
 use Rattle.gc_values.specs.declared.root.GcRootIndex.{GcRootIndex}
 use Rattle.gc_values.specs.declared.root.RawValue.{RawValue}
 use Rattle.gc_values.specs.declared.root.RawValue.TheVariants as raw

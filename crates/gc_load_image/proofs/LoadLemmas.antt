@@ -14,9 +14,9 @@ use Rattle.gc_model.specs.Reach.{Reached, by_start, by_step, references_in, root
 use Rattle.gc_model.specs.Stores.{StoreView}
 use Rattle.gc_model.specs.Table.{Scoped, Slot, Table, leave, start}
 use Rattle.gc_model.specs.Values.{Reference, at, Value, numeric, function, continuation, reference, Object, struct, array, host, exception}
-use Rattle.gc_policy.specs.Accounts.{Account, HoldsAccount, no_account}
-use Rattle.gc_policy.proofs.CollectedKept.{reached_placed}
-use Rattle.gc_policy.proofs.CollectedLists.{flat_contains}
+use Rattle.gc_model.specs.Accounts.{Account, HoldsAccount, no_account}
+use Rattle.gc_model.proofs.CollectedKept.{reached_placed}
+use Rattle.gc_model.proofs.CollectedLists.{flat_contains}
 use Rattle.gc_view.specs.Reach.{Reachable}
 use Rattle.gc_store.specs.Stores.{HoldsStart}
 use Rattle.gc_owner.specs.declared.entry.GcClass.{GcClass}

@@ -25,9 +25,9 @@ use Rattle.gc_model.specs.Values.{Reference, at, Object}
 use Rattle.gc_model.specs.Words.{Placing}
 use Rattle.gc_model.proofs.Lists.{slice_get-push_cases, slice_get-take}
 use Rattle.gc_owner.specs.Limiters.{Refuses}
-use Rattle.gc_policy.specs.Accounts.{Account, HoldsAccount, with_held}
-use Rattle.gc_policy.specs.Policy.{PolicyState, policy_state}
-use Rattle.gc_policy.proofs.CollectedKept.{reached_placed}
+use Rattle.gc_model.specs.Accounts.{Account, HoldsAccount, with_held}
+use Rattle.gc_model.specs.Policy.{PolicyState, policy_state}
+use Rattle.gc_model.proofs.CollectedKept.{reached_placed}
 use Rattle.gc_values.specs.declared.root.GcRootIndex.{GcRootIndex}
 use Rattle.gc_store.specs.Places.{LacksPlace, PlacesObject, RefusesPlace, WantsPlace}
 use Rattle.gc_store.specs.Roots.{NamesReference}

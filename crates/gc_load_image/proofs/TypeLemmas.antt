@@ -9,7 +9,7 @@ use Rattle.gc_types.specs.Declarations.{Declaration, TypeName}
 use Rattle.gc_commands.specs.declared.command.Command.{Command}
 use Rattle.gc_model.specs.Stores.{StoreView}
 use Rattle.gc_model.specs.Table.{Table}
-use Rattle.gc_policy.specs.Accounts.{Account, HoldsAccount}
+use Rattle.gc_model.specs.Accounts.{Account, HoldsAccount}
 use Rattle.gc_store.specs.Stores as store
 use Rattle.gc_image.specs.Declaring.{DeclareInTurn, declared_by}
 use Rattle.gc_image.specs.Steps.{Declared}

@@ -11,7 +11,7 @@ use Rattle.gc_model.specs.Sizes.{object_size}
 use Rattle.gc_model.specs.Stores.{StoreView}
 use Rattle.gc_model.specs.SideValues.{no_side_values}
 use Rattle.gc_model.specs.Table.{Table, null_slot, global_count}
-use Rattle.gc_policy.specs.Accounts.{Account, HoldsAccount}
+use Rattle.gc_model.specs.Accounts.{Account, HoldsAccount}
 use Rattle.gc_image.specs.declared.image.GlobalLine.{GlobalLine}
 use Rattle.gc_image.specs.declared.image.ImageReference.{ImageReference}
 use Rattle.gc_image.specs.declared.image.ImageReference.TheVariants as image_reference

@@ -16,8 +16,8 @@ use Rattle.gc_model.specs.Table.{Table, Slot, null_slot, global_count}
 use Rattle.gc_model.specs.Values.{Reference, null, small, at, Value, reference, Object, struct, array, host, exception}
 use Rattle.gc_model.specs.Words.{Placing}
 use Rattle.gc_owner.specs.declared.entry.GcClass.{GcClass}
-use Rattle.gc_policy.specs.Accounts.{Account, HoldsAccount}
-use Rattle.gc_policy.specs.Policy.{PolicyState}
+use Rattle.gc_model.specs.Accounts.{Account, HoldsAccount}
+use Rattle.gc_model.specs.Policy.{PolicyState}
 use Rattle.gc_values.specs.declared.root.GcRootIndex.{GcRootIndex}
 use Rattle.gc_values.specs.declared.root.RawValue.{RawValue}
 use Rattle.gc_values.specs.declared.root.RootFault.{RootFault}

@@ -2,7 +2,7 @@
 
 ghost use Rattle.std.specs.Prelude.{◌≡◌, ◌<◌, ◌+◌, ℕ, length, replicate};
 ghost use Rattle.gc_model.specs.Table.{Table, null_slot, global_count};
-ghost use Rattle.gc_policy.specs.Accounts.{Account, HoldsAccount};
+ghost use Rattle.gc_model.specs.Accounts.{Account, HoldsAccount};
 ghost use Rattle.gc_store.specs.Stores.{IsSameStore};
 ghost use Rattle.gc_image.specs.Well.{AreRising};
 ghost use Rattle.gc_load_image.specs.Stages.{AreSlots, GlobalsSet, HeldStand};

@@ -3,8 +3,8 @@
 ghost use Rattle.std.specs.Prelude.{◌≡◌, ℕ, List, length, map};
 ghost use Rattle.gc_model.specs.Table.{Table};
 ghost use Rattle.gc_model.specs.Values.{Value, Object, array, host};
-ghost use Rattle.gc_policy.specs.Accounts.{Account, HoldsAccount};
-ghost use Rattle.gc_policy.specs.Policy.{policy_state};
+ghost use Rattle.gc_model.specs.Accounts.{Account, HoldsAccount};
+ghost use Rattle.gc_model.specs.Policy.{policy_state};
 ghost use Rattle.gc_store.specs.Requests.{CanPlaceBytes, CanPlaceElements, CanPlaceIn, IsObjectOf, element_of};
 ghost use Rattle.gc_model.specs.Stored.{byte_value, stored};
 ghost use Rattle.gc_store.specs.Stores.{IsSameStore};

@@ -2,7 +2,7 @@
 
 ghost use Rattle.std.specs.Prelude.{◌≡◌, ℕ, Some, MatchResult, slice_get, map};
 ghost use Rattle.gc_model.specs.Table.{Table};
-ghost use Rattle.gc_policy.specs.Accounts.{Account};
+ghost use Rattle.gc_model.specs.Accounts.{Account};
 ghost use Rattle.gc_store.specs.Stores.{IsSameStore};
 ghost use Rattle.gc_image.specs.Text.{FitsImageReference, FitsImageValue};
 ghost use Rattle.gc_load_image.specs.Stages.{FindsHandle, FailedValues, FindsRawValue, FoundValues, Standing, global_line_value};

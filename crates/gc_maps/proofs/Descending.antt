@@ -11,7 +11,7 @@ use Rattle.gc_model.specs.Values.{reference}
 use Rattle.gc_model.specs.Forms.{Names, naming}
 use Rattle.gc_model.specs.Holds.{Holds, Placing}
 use Rattle.gc_owner.specs.declared.entry.GcClass.TheVariants.{Any}
-use Rattle.gc_policy.specs.Accounts.{Account, HoldsAccount}
+use Rattle.gc_model.specs.Accounts.{Account, HoldsAccount}
 use Rattle.gc_values.specs.declared.root.GcRootIndex.{GcRootIndex}
 use Rattle.gc_store.specs.Reading.{IsFoundHere}
 use Rattle.gc_store.specs.Stores.{IsSameStore}

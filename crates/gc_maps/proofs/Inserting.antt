@@ -12,7 +12,7 @@ use Rattle.gc_model.specs.Live.{roots_full}
 use Rattle.gc_model.specs.OwnedRoots.{own, owned_full}
 use Rattle.gc_model.specs.Table.{Table, leave, make_heap}
 use Rattle.gc_model.specs.Stores.{StoreView}
-use Rattle.gc_policy.specs.Accounts.{Account, HoldsAccount}
+use Rattle.gc_model.specs.Accounts.{Account, HoldsAccount}
 use Rattle.gc_values.specs.declared.root.GcRootIndex.{GcRootIndex}
 use Rattle.gc_store.specs.Roots.{owned_handle}
 use Rattle.gc_lists.specs.declared.fault.ListFault.{ListFault}

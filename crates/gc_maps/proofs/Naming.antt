@@ -12,7 +12,7 @@ use Rattle.gc_model.specs.Live.{rooted_among}
 use Rattle.gc_model.specs.Stores.{StoreView}
 use Rattle.gc_model.specs.Holds.{HoldsTable}
 use Rattle.gc_model.proofs.Lists.{slice_get-push_new}
-use Rattle.gc_policy.specs.Accounts.{Account, HoldsAccount}
+use Rattle.gc_model.specs.Accounts.{Account, HoldsAccount}
 use Rattle.gc_values.specs.declared.root.GcRootIndex.{GcRootIndex}
 use Rattle.gc_values.specs.declared.root.RootSlot.TheVariants as slot
 use Rattle.gc_store.specs.Roots.{handle_of, owned_handle, NamesReference}

@@ -21,8 +21,8 @@ use Rattle.gc_model.specs.Allocation.{Limits}
 use Rattle.gc_model.specs.Stores.{StoreView}
 use Rattle.gc_model.specs.Holds.{HoldsTable}
 use Rattle.gc_model.proofs.Lists.{slice_get-push_new}
-use Rattle.gc_policy.specs.Accounts.{Account, HoldsAccount, with_held}
-use Rattle.gc_policy.specs.Policy.{policy_state}
+use Rattle.gc_model.specs.Accounts.{Account, HoldsAccount, with_held}
+use Rattle.gc_model.specs.Policy.{policy_state}
 use Rattle.gc_values.specs.declared.root.GcRootIndex.{GcRootIndex}
 use Rattle.gc_values.specs.declared.root.RawValue.{RawValue}
 use Rattle.gc_values.specs.declared.root.RawValue.TheVariants as raw

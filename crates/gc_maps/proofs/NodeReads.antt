@@ -11,7 +11,7 @@ use Rattle.gc_model.specs.Stores.{StoreView}
 use Rattle.gc_model.specs.SideValues.{InternedIds}
 use Rattle.gc_model.specs.Forms.{Names, naming}
 use Rattle.gc_model.specs.Holds.{Placing, IsWord, Holds, HoldsTable}
-use Rattle.gc_policy.specs.Accounts.{Account, HoldsAccount}
+use Rattle.gc_model.specs.Accounts.{Account, HoldsAccount}
 use Rattle.gc_model.proofs.Words.{place_even}
 use Rattle.gc_values.specs.declared.root.GcRootIndex.{GcRootIndex}
 use Rattle.gc_values.specs.declared.stored.Found.{Found}

@@ -6,7 +6,7 @@ use Rattle.gc_types.specs.declared.kind.Layouts.{Layouts}
 use Rattle.gc_model.specs.Live.{roots_full}
 use Rattle.gc_model.specs.Table.{Table, Scoped, leave}
 use Rattle.gc_model.specs.Stores.{StoreView}
-use Rattle.gc_policy.specs.Accounts.{Account, HoldsAccount}
+use Rattle.gc_model.specs.Accounts.{Account, HoldsAccount}
 use Rattle.gc_values.specs.declared.root.GcRootIndex.{GcRootIndex}
 use Rattle.gc_store.specs.Roots.{NamesReference}
 use Rattle.gc_store.specs.Stores.{IsSameStore}

@@ -5,7 +5,7 @@ use Rattle.gc_model.specs.Values.{Reference}
 use Rattle.gc_model.specs.Allocation.{Limits}
 use Rattle.gc_model.specs.Table.{Table, Owned, leave}
 use Rattle.gc_model.specs.Stores.{StoreView}
-use Rattle.gc_policy.specs.Accounts.{HoldsAccount}
+use Rattle.gc_model.specs.Accounts.{HoldsAccount}
 use Rattle.gc_lists.specs.declared.fault.ListFault.{ListFault}
 use Rattle.gc_lists.specs.declared.fault.ListFault.TheVariants as fault
 use Rattle.gc_lists.specs.declared.kit.Kit.{Kit}

@@ -2,7 +2,7 @@
 
 ghost use Rattle.std.specs.Prelude.{◌≡◌, ◌+◌, ◌<◌, ℕ, ℤ, pos, max};
 ghost use Rattle.gc_model.specs.Table.{Table};
-ghost use Rattle.gc_policy.specs.Accounts.{Account, HoldsAccount};
+ghost use Rattle.gc_model.specs.Accounts.{Account, HoldsAccount};
 ghost use Rattle.gc_store.specs.Stores.{IsSameStore};
 ghost use Rattle.gc_lists.specs.Refusals.{CountsOn};
 ghost use Rattle.gc_maps.specs.Makes.{CanMakeNode, CanMakeTwo, EndsMaking, IsLow};

@@ -6,7 +6,7 @@ ghost use Rattle.gc_model.specs.Values.{Reference, reference};
 ghost use Rattle.gc_model.specs.Table.{Table};
 ghost use Rattle.gc_model.specs.Forms.{naming};
 ghost use Rattle.gc_model.specs.Holds.{Holds, HoldsTable, Placing};
-ghost use Rattle.gc_policy.specs.Accounts.{Account, HoldsAccount};
+ghost use Rattle.gc_model.specs.Accounts.{Account, HoldsAccount};
 ghost use Rattle.gc_store.specs.Stores.{IsSameStore};
 ghost use Rattle.gc_store.specs.Reading.{IsFoundHere};
 ghost use Rattle.gc_values.specs.Kept.{FoundStands};

@@ -20,3 +20,8 @@ pub mod Pending
 pub mod Stores
 pub mod RootPoints
 pub mod Holds
+pub mod Accounts
+pub mod Collects
+pub mod HostMaking
+pub mod Policy
+pub mod Shown

@@ -14,8 +14,8 @@ use Rattle.gc_model.specs.Allocation.{Limits}
 use Rattle.gc_model.specs.Stored.{stored, byte_value}
 use Rattle.gc_model.specs.Table.{Table}
 use Rattle.gc_model.specs.Stores.{StoreView}
-use Rattle.gc_policy.specs.Accounts.{Account, HoldsAccount}
-use Rattle.gc_policy.specs.Policy.{policy_state}
+use Rattle.gc_model.specs.Accounts.{Account, HoldsAccount}
+use Rattle.gc_model.specs.Policy.{policy_state}
 use Rattle.gc_values.specs.declared.root.GcRootIndex.{GcRootIndex}
 use Rattle.gc_values.specs.declared.root.RawValue.{RawValue}
 use Rattle.gc_rooted.specs.declared.rooted.Rooted.{Rooted}

@@ -8,9 +8,9 @@ use Rattle.gc_model.specs.Allocation.{Limits}
 use Rattle.gc_model.specs.Table.{Table, push}
 use Rattle.gc_model.specs.Stores.{StoreView}
 use Rattle.gc_model.specs.Holds.{HoldsTable}
-use Rattle.gc_policy.specs.Accounts.{Account, HoldsAccount}
-use Rattle.gc_policy.specs.Policy.{policy_state}
-use Rattle.gc_policy.proofs.AccountLemmas.{some_account}
+use Rattle.gc_model.specs.Accounts.{Account, HoldsAccount}
+use Rattle.gc_model.specs.Policy.{policy_state}
+use Rattle.gc_model.proofs.AccountLemmas.{some_account}
 use Rattle.gc_store.specs.declared.hosts.PlaceHostFault.{PlaceHostFault}
 use Rattle.gc_store.specs.declared.hosts.PlaceHostFault.TheVariants as place
 use Rattle.gc_values.specs.declared.root.GcRootIndex.{GcRootIndex}

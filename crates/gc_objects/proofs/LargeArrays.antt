@@ -18,8 +18,8 @@ use Rattle.gc_model.specs.Sizes.{elements_size, object_size}
 use Rattle.gc_model.specs.Stored.{stored, byte_value}
 use Rattle.gc_model.specs.Table.{Table}
 use Rattle.gc_model.specs.Stores.{StoreView}
-use Rattle.gc_policy.specs.Accounts.{Account, HoldsAccount}
-use Rattle.gc_policy.specs.Policy.{policy_state}
+use Rattle.gc_model.specs.Accounts.{Account, HoldsAccount}
+use Rattle.gc_model.specs.Policy.{policy_state}
 use Rattle.gc_store.specs.Requests.{CanPlaceElements, CanPlaceBytes, element_of}
 use Rattle.gc_objects.specs.declared.val.Val.{Val}
 use Rattle.gc_objects.specs.Given.{raw_of}

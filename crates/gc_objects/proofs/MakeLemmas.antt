@@ -16,8 +16,8 @@ use Rattle.gc_model.specs.Table.{Table, make, with_pages}
 use Rattle.gc_model.specs.Stores.{StoreView}
 use Rattle.gc_model.proofs.Lists.{slice_get-push_new}
 use Rattle.gc_model.proofs.StoredValues.{mapped_from}
-use Rattle.gc_policy.specs.Accounts.{Account, HoldsAccount, with_held}
-use Rattle.gc_policy.specs.Policy.{PolicyState, policy_state, not_begun}
+use Rattle.gc_model.specs.Accounts.{Account, HoldsAccount, with_held}
+use Rattle.gc_model.specs.Policy.{PolicyState, policy_state, not_begun}
 use Rattle.gc_values.specs.declared.root.GcRootIndex.{GcRootIndex}
 use Rattle.gc_values.specs.declared.root.RawValue.{RawValue}
 use Rattle.gc_rooted.specs.declared.rooted.Rooted.{Rooted}

@@ -7,8 +7,8 @@ use Rattle.gc_model.specs.Values.{Reference, null, small, at}
 use Rattle.gc_model.specs.Table.{Table, push}
 use Rattle.gc_model.specs.Stores.{StoreView}
 use Rattle.gc_model.specs.Holds.{Placing, Holds, HoldsTable, IsWord}
-use Rattle.gc_policy.specs.Accounts.{Account}
-use Rattle.gc_policy.proofs.AccountLemmas.{own_account}
+use Rattle.gc_model.specs.Accounts.{Account}
+use Rattle.gc_model.proofs.AccountLemmas.{own_account}
 use Rattle.gc_values.specs.declared.root.GcRootIndex.{GcRootIndex}
 use Rattle.gc_values.specs.declared.root.RootFault.{RootFault}
 use Rattle.gc_values.specs.declared.root.RootFault.TheVariants as fault

@@ -9,7 +9,7 @@ use Rattle.gc_model.specs.Allocation.{Limits, too_large}
 use Rattle.gc_model.specs.Stored.{stored, stored_in, byte_value}
 use Rattle.gc_model.specs.Table.{Table, make}
 use Rattle.gc_model.specs.Stores.{StoreView}
-use Rattle.gc_policy.specs.Policy.{PolicyState}
+use Rattle.gc_model.specs.Policy.{PolicyState}
 use Rattle.gc_values.specs.declared.root.GcRootIndex.{GcRootIndex}
 use Rattle.gc_rooted.specs.declared.rooted.Rooted.{Rooted}
 use Rattle.gc_values.specs.declared.faults.PlaceFault.{PlaceFault}

@@ -5,7 +5,7 @@ use Rattle.gc_model.specs.Values.{Reference}
 use Rattle.gc_model.specs.Table.{Table}
 use Rattle.gc_model.specs.Stores.{StoreView}
 use Rattle.gc_model.specs.Holds.{Placing}
-use Rattle.gc_policy.specs.Accounts.{Account}
+use Rattle.gc_model.specs.Accounts.{Account}
 use Rattle.gc_values.specs.declared.root.RootFault.{RootFault}
 use Rattle.gc_rooted.specs.declared.rooted.Rooted.{Rooted}
 use Rattle.gc_store.specs.RawWords.{PushesWord}

@@ -8,7 +8,7 @@ use Rattle.gc_model.specs.Stored.{value_type}
 use Rattle.gc_model.specs.Holds.{HoldsTable}
 use Rattle.gc_model.specs.Table.{Table}
 use Rattle.gc_model.specs.Stores.{StoreView}
-use Rattle.gc_policy.specs.Accounts.{Account}
+use Rattle.gc_model.specs.Accounts.{Account}
 use Rattle.gc_values.specs.declared.root.GcRootIndex.{GcRootIndex}
 use Rattle.gc_values.specs.declared.root.RootFault.{RootFault}
 use Rattle.gc_values.specs.declared.root.RootFault.TheVariants as root_fault

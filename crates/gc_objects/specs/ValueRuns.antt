@@ -9,7 +9,7 @@ use Rattle.gc_model.specs.Reach.{object_values, value_references}
 use Rattle.gc_model.specs.Reads.{after_read}
 use Rattle.gc_model.specs.Table.{Table}
 use Rattle.gc_model.specs.Stores.{StoreView}
-use Rattle.gc_policy.specs.Accounts.{Account, HoldsAccount}
+use Rattle.gc_model.specs.Accounts.{Account, HoldsAccount}
 use Rattle.gc_values.specs.declared.root.GcRootIndex.{GcRootIndex}
 use Rattle.gc_store.specs.RootRoom.{roots_left}
 use Rattle.gc_store.specs.Roots.{is_of_store, NamesReference, NamesNothing}

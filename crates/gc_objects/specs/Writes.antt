@@ -9,7 +9,7 @@ use Rattle.gc_model.specs.SideValues.{SideValues, side_values, functions_full, c
 use Rattle.gc_model.specs.Stored.{stored, value_type}
 use Rattle.gc_model.specs.Table.{Table, write}
 use Rattle.gc_model.specs.Stores.{StoreView}
-use Rattle.gc_policy.specs.Accounts.{Account, HoldsAccount}
+use Rattle.gc_model.specs.Accounts.{Account, HoldsAccount}
 use Rattle.gc_values.specs.declared.root.GcRootIndex.{GcRootIndex}
 use Rattle.gc_values.specs.declared.faults.WriteFault.TheVariants as write_fault
 use Rattle.gc_store.specs.Roots.{is_of_store, NamesReference, NamesNothing, HasValue}

@@ -8,7 +8,7 @@ ghost use Rattle.gc_types.specs.Declarations.{fields_at, elem_at};
 ghost use Rattle.gc_types.specs.Layouts.{is_gc_storage};
 ghost use Rattle.gc_model.specs.Holds.{HoldsTable};
 ghost use Rattle.gc_model.specs.Table.{Table};
-ghost use Rattle.gc_policy.specs.Accounts.{Account, HoldsAccount};
+ghost use Rattle.gc_model.specs.Accounts.{Account, HoldsAccount};
 ghost use Rattle.gc_store.specs.Kinds.{NamesKind};
 ghost use Rattle.gc_objects.specs.Given.{field_types};
 ghost use Rattle.gc_objects.specs.ValueRuns.{HasCounts, CanGive, LeavesAll, LeavesRoom, RefusesValues, is_reference_field, reference_fields};

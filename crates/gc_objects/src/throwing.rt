@@ -60,7 +60,7 @@ impl<H: GcHeap, D: Drop> StoreExn for Store<H, D> {
     ghost use Rattle.std.specs.Prelude.{◌≡◌, ◌≤◌, ◌<◌, IfOk, IsErr, OnErr, Err};
     ghost use Rattle.gc_types.specs.declared.kind.VMGcKind.{VMGcKind};
     ghost use Rattle.gc_model.specs.Table.{Table};
-    ghost use Rattle.gc_policy.specs.Accounts.{Account, HoldsAccount};
+    ghost use Rattle.gc_model.specs.Accounts.{Account, HoldsAccount};
     ghost use Rattle.gc_store.specs.Stores.{IsSameStore, scoped_places};
     ghost use Rattle.gc_store.specs.Kinds.{NamesKind};
     ghost use Rattle.gc_objects.specs.Given.{root_of_handle, RootNamesKind};

@@ -4,7 +4,7 @@ ghost use Rattle.std.specs.Prelude.{◌≡◌, ◌-◌, List, length};
 ghost use Rattle.std.specs.Iterator.{at_most, IsFinite};
 ghost use Rattle.gc_model.specs.Table.{Table};
 ghost use Rattle.gc_model.specs.Values.{Value};
-ghost use Rattle.gc_policy.specs.Accounts.{Account};
+ghost use Rattle.gc_model.specs.Accounts.{Account};
 ghost use Rattle.gc_objects.specs.ValueRuns.{HasLeft, CanGive, GivesNext, run_of};
 
 use crate::access::read;

@@ -13,8 +13,8 @@ use Rattle.gc_model.specs.Table.{Table, Push, leave}
 use Rattle.gc_model.specs.Words.{Placing}
 use Rattle.gc_model.specs.Stores.{StoreView}
 use Rattle.gc_model.proofs.Members.{get_contains, contains_get, map_among, among_map}
-use Rattle.gc_policy.proofs.HeldSums.{no_other}
-use Rattle.gc_policy.specs.Accounts.{Account}
+use Rattle.gc_model.proofs.HeldSums.{no_other}
+use Rattle.gc_model.specs.Accounts.{Account}
 use Rattle.gc_store.specs.OwnedWords.{HoldsThere}
 use Rattle.gc_paths.specs.Walks.{start_root, ValueNames, Walk, from_root, from_object, IsWalked, start_references}
 use Rattle.gc_values.specs.declared.root.GcRootIndex.{GcRootIndex}

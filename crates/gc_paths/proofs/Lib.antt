@@ -10,3 +10,5 @@ pub mod StartRoots
 pub mod Starts
 pub mod Taken
 pub mod ValuesLoop
+pub mod Leading
+pub mod Targeting

@@ -15,10 +15,10 @@ use Rattle.gc_model.specs.Words.{Placing}
 use Rattle.gc_model.specs.Stores.{StoreView}
 use Rattle.gc_model.specs.Holds.{Holds}
 use Rattle.gc_model.proofs.Members.{map_among, among_map, get_contains}
-use Rattle.gc_policy.proofs.CollectedKept.{reached_placed}
-use Rattle.gc_policy.proofs.HeldNumber as held
-use Rattle.gc_policy.proofs.HeldSums.{passing, passes, distinct_passing, sum_part}
-use Rattle.gc_policy.proofs.HeldPaths.{is_reached, is_reached-true, true-is_reached}
+use Rattle.gc_model.proofs.CollectedKept.{reached_placed}
+use Rattle.gc_model.proofs.HeldNumber as held
+use Rattle.gc_model.proofs.HeldSums.{passing, passes, distinct_passing, sum_part}
+use Rattle.gc_model.proofs.HeldPaths.{is_reached, is_reached-true, true-is_reached}
 use Rattle.gc_store.specs.RootWords.{with_numbers}
 use Rattle.gc_paths.specs.Walks.{StartRoot, start_root, global_root, pending_roots, slot_root, frame_roots, owned_root, scoped_root, scoped_roots, start_roots, start_references, Walk, from_root, from_object, IsWalked}
 use Rattle.gc_paths.specs.Answers.{LacksRoots, IsFull, present_count, held_count}

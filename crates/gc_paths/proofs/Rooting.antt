@@ -8,7 +8,7 @@ use Rattle.gc_model.specs.Words.{Placing, IsWord}
 use Rattle.gc_model.specs.Stores.{StoreView}
 use Rattle.gc_model.specs.Holds.{Holds}
 use Rattle.gc_model.proofs.Words.{place_even, word_names}
-use Rattle.gc_policy.specs.Accounts.{Account}
+use Rattle.gc_model.specs.Accounts.{Account}
 use Rattle.gc_values.specs.declared.root.GcRootIndex.{GcRootIndex}
 use Rattle.gc_values.specs.declared.root.RootFault.{RootFault}
 use Rattle.gc_values.specs.declared.root.RootFault.TheVariants as fault

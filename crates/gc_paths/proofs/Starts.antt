@@ -22,7 +22,7 @@ use Rattle.gc_model.specs.Holds.{Holds}
 use Rattle.gc_model.proofs.Members.{get_contains, contains_get, map_among, among_map}
 use Rattle.gc_model.proofs.SlotObjects.{AreWordsOf}
 use Rattle.gc_model.proofs.Words.{place_even}
-use Rattle.gc_policy.proofs.OwnedNames.{held_owned, entry_word}
+use Rattle.gc_model.proofs.OwnedNames.{held_owned, entry_word}
 use Rattle.gc_store.specs.declared.root_words.RootName.TheVariants as name
 use Rattle.gc_store.specs.declared.root_words.RootWord.{RootWord}
 use Rattle.gc_store.specs.RootWords as words

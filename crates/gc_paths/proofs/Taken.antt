@@ -9,7 +9,7 @@ use Rattle.gc_model.specs.Values.{at}
 use Rattle.gc_model.specs.Stores.{StoreView}
 use Rattle.gc_model.proofs.Lists.{slice_get-push_old, slice_get-push_new, slice_get-push_cases}
 use Rattle.gc_model.proofs.Members.{map_among, contains_get}
-use Rattle.gc_policy.proofs.HeldSums.{distinct_push}
+use Rattle.gc_model.proofs.HeldSums.{distinct_push}
 use Rattle.gc_values.specs.declared.root.GcRootIndex.{GcRootIndex}
 use Rattle.gc_store.specs.Roots.{NamesReference}
 use Rattle.gc_paths.specs.declared.entry.PathParent.{PathParent}

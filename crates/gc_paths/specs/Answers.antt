@@ -7,7 +7,7 @@ use Rattle.gc_model.specs.Reach.{AreAll, references_in}
 use Rattle.gc_model.specs.Table.{Table, Push}
 use Rattle.gc_model.specs.Words.{Placing}
 use Rattle.gc_model.specs.Stores.{StoreView}
-use Rattle.gc_policy.specs.Accounts.{Account}
+use Rattle.gc_model.specs.Accounts.{Account}
 use Rattle.gc_store.specs.OwnedWords.{HoldsThere}
 use Rattle.gc_paths.specs.declared.entry.PathEntry.{PathEntry}
 use Rattle.gc_paths.specs.declared.fault.PathFault.{PathFault}

@@ -9,3 +9,4 @@ pub mod Steps
 pub mod Taking
 pub mod Walks
 pub mod Left
+pub mod Targets

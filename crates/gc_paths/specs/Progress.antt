@@ -7,7 +7,7 @@ use Rattle.gc_model.specs.Reach.{value_references}
 use Rattle.gc_model.specs.Table.{Table, Scoped, Push}
 use Rattle.gc_model.specs.Words.{Placing, IsWord}
 use Rattle.gc_model.specs.Stores.{StoreView}
-use Rattle.gc_policy.specs.Accounts.{Account}
+use Rattle.gc_model.specs.Accounts.{Account}
 use Rattle.gc_values.specs.declared.root.GcRootIndex.{GcRootIndex}
 use Rattle.gc_store.specs.declared.root_words.RootWord.{RootWord}
 use Rattle.gc_store.specs.OwnedWords.{HoldsThere}

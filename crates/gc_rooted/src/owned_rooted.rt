@@ -6,7 +6,7 @@ ghost use Rattle.std.specs.Result.{MatchResult};
 ghost use Rattle.gc_model.specs.Values.{Reference};
 ghost use Rattle.gc_model.specs.Table.{Table};
 ghost use Rattle.gc_model.specs.Holds.{HoldsTable, Placing, IsWord};
-ghost use Rattle.gc_policy.specs.Accounts.{Account, HoldsAccount};
+ghost use Rattle.gc_model.specs.Accounts.{Account, HoldsAccount};
 ghost use Rattle.gc_store.specs.Handles.{PushesRoot};
 ghost use Rattle.gc_store.specs.OwnedRoots.{MakesOwned, AddsHandle, DropsHandle};
 ghost use Rattle.gc_store.specs.OwnedWords.{HoldsThere};

@@ -27,8 +27,8 @@ use Rattle.gc_image.specs.Parts.{ImageParts}
 use Rattle.gc_image.specs.Text.{FitsImage, FitsObject}
 use Rattle.gc_image.specs.Well.{GlobalsReachAll, AreRising, AreWellGlobals, AreWellObjects, HasShape, HoldsReference, GlobalHolds, IsWellGlobal, IsWellValue, as_object, as_value, line_values, number_named}
 use Rattle.gc_image.proofs.AlikeLemmas.{element_at}
-use Rattle.gc_image_collect.specs.Collection.{IsCollection}
-use Rattle.gc_image_collect.specs.declared.collect.Collected.{Collected}
+use Rattle.gc_save_image.specs.Collection.{IsCollection}
+use Rattle.gc_save_image.specs.declared.collect.Collected.{Collected}
 use Rattle.gc_image_write.specs.Graphs.{graph_of}
 use Rattle.gc_image_write.specs.InTurn.{IsInTurn}
 use Rattle.gc_image_write.specs.Order.{AreClosed, NamesBelow, IsOrder, early_in, early_named, early_of, is_early_in}

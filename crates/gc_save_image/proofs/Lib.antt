@@ -1,3 +1,13 @@
+pub mod Taken
+pub mod WasRead
+pub mod FirstValues
+pub mod Lines
+pub mod ObjectKinds
+pub mod Rounds
+pub mod ReadSlots
+pub mod SaySlots
+pub mod Closing
+pub mod Leaving
 pub mod Elements
 pub mod Renumbered
 pub mod FitsPlaced

@@ -10,8 +10,8 @@ use Rattle.gc_image.specs.declared.image.ObjectLine.{ObjectLine}
 use Rattle.gc_image.specs.declared.image.ObjectLine.TheVariants as object
 use Rattle.gc_image.specs.Well.{as_object}
 use Rattle.gc_image.proofs.AlikeLemmas.{element_at, once}
-use Rattle.gc_image_collect.specs.Collection.{IsCollection, IsLineOf}
-use Rattle.gc_image_collect.specs.declared.collect.Collected.{Collected}
+use Rattle.gc_save_image.specs.Collection.{IsCollection, IsLineOf}
+use Rattle.gc_save_image.specs.declared.collect.Collected.{Collected}
 use Rattle.gc_image_write.specs.Order.{IsOrder}
 use Rattle.gc_image_write.proofs.LineBelow.{IsLineBelow}
 use Rattle.gc_save_image.specs.Renumbering.{AreNumbersOf, line_at, new_number_in, renumbered_line, reordered}

@@ -21,7 +21,7 @@ use Rattle.gc_model.specs.Table.{Table}
 use Rattle.gc_model.specs.Values.{Object, Value, array, continuation, exception, function, host, numeric, reference, struct}
 use Rattle.gc_model.proofs.Fitting.{fits-form}
 use Rattle.gc_model.proofs.Members.{get_contains}
-use Rattle.gc_image_collect.specs.Collection.{HasPlainValues, is_plain}
+use Rattle.gc_save_image.specs.Collection.{HasPlainValues, is_plain}
 use Rattle.gc_image_write.specs.Plain.{ArePlain, IsPlainField, IsPlainShape, IsPlainStorage, IsPlainVal}
 use Rattle.gc_save_image.proofs.Elements.{mapped}
 

@@ -18,7 +18,7 @@ use Rattle.gc_image.specs.declared.image.ObjectLine.TheVariants as object
 use Rattle.gc_image.specs.Images.{AreGlobals, IsGlobal, SaysSlot, placed_object, placed_reference, placed_value}
 use Rattle.gc_image.specs.Well.{GlobalHolds, NamesByNumber, as_object, as_reference, as_value, line_values, number_named}
 use Rattle.gc_image.proofs.AlikeLemmas.{element_at, once}
-use Rattle.gc_image_collect.proofs.Closing.{among_values, find_line}
+use Rattle.gc_save_image.proofs.Closing.{among_values, find_line}
 use Rattle.gc_image_write.specs.Order.{AreClosed}
 use Rattle.gc_save_image.proofs.Elements.{mapped}
 

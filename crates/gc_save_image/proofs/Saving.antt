@@ -10,17 +10,17 @@ use Rattle.gc_model.specs.Holds.{TypedBy}
 use Rattle.gc_model.specs.Reach.{slot_references}
 use Rattle.gc_model.specs.Stores.{StoreView}
 use Rattle.gc_model.specs.Table.{Push, Table}
-use Rattle.gc_policy.specs.Accounts.{Account, HoldsAccount}
-use Rattle.gc_policy.proofs.HeldBlocks.{same_positions}
+use Rattle.gc_model.specs.Accounts.{Account, HoldsAccount}
+use Rattle.gc_model.proofs.HeldBlocks.{same_positions}
 use Rattle.gc_paths.specs.Answers.{LacksRoots, held_count, present_count}
 use Rattle.gc_image.specs.declared.image.GlobalLine.{GlobalLine}
 use Rattle.gc_image.specs.declared.image.ObjectLine.{ObjectLine}
 use Rattle.gc_image.specs.Images.{IsGlobal}
 use Rattle.gc_image.specs.Well.{GlobalHolds}
 use Rattle.gc_image.proofs.AlikeLemmas.{element_at}
-use Rattle.gc_image_collect.specs.Answers.{CollectsImage, LacksImageRoots, DropsImageRoots}
-use Rattle.gc_image_collect.specs.Collection.{IsCollection}
-use Rattle.gc_image_collect.specs.declared.collect.Collected.{Collected}
+use Rattle.gc_save_image.specs.Answers.{CollectsImage, LacksImageRoots, DropsImageRoots}
+use Rattle.gc_save_image.specs.Collection.{IsCollection}
+use Rattle.gc_save_image.specs.declared.collect.Collected.{Collected}
 use Rattle.gc_image_write.specs.Order.{AreClosed, AreTangled, early_named}
 use Rattle.gc_image_write.specs.Plain.{ArePlain}
 use Rattle.gc_image_write.specs.TypeWords.{AreTypeCommands}

@@ -19,8 +19,8 @@ use Rattle.gc_image.specs.Images.{Images, IsGlobal, placed_object, placed_value}
 use Rattle.gc_image.specs.Parts.{ImageParts}
 use Rattle.gc_image.specs.Well.{as_object, as_value, is_early, line_values, number_named}
 use Rattle.gc_image.proofs.AlikeLemmas.{element_at}
-use Rattle.gc_image_collect.specs.Collection.{IsCollection}
-use Rattle.gc_image_collect.specs.declared.collect.Collected.{Collected}
+use Rattle.gc_save_image.specs.Collection.{IsCollection}
+use Rattle.gc_save_image.specs.declared.collect.Collected.{Collected}
 use Rattle.gc_image_write.specs.Order.{AreTangled, Needs, early_in, early_named, early_of, is_early_in}
 use Rattle.gc_save_image.specs.Saves.{IsTangled, NeedsEarly}
 use Rattle.gc_save_image.proofs.Elements.{map_at, mapped}

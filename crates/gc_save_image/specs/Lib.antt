@@ -1,3 +1,9 @@
+pub mod Collection
+pub mod Answers
+pub mod Parts
+pub mod Progress
+pub mod Steps
+pub mod GlobalSteps
 pub mod Saves
 pub mod Renumbering
 pub mod Keeping

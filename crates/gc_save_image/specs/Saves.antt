@@ -10,7 +10,7 @@ use Rattle.gc_image.specs.Images.{ImagesText, IsGlobal}
 use Rattle.gc_image.specs.Well.{is_early}
 use Rattle.gc_image_write.specs.InTurn.{IsInTurn}
 use Rattle.gc_image_write.specs.Plain.{ArePlain}
-use Rattle.gc_image_collect.specs.Answers.{LacksImageRoots}
+use Rattle.gc_save_image.specs.Answers.{LacksImageRoots}
 use Rattle.gc_save_image.specs.declared.fault.SaveFault.{SaveFault}
 use Rattle.gc_save_image.specs.declared.fault.SaveFault.TheVariants as fault
 

@@ -3,22 +3,23 @@
 ghost use Rattle.std.specs.Prelude.{◌≡◌, ◌<◌, ℕ, Some, Ok, Err, IfOk, IfSome, IfNone, MatchResult, length};
 ghost use Rattle.std.specs.List.{AllByRecursion};
 ghost use Rattle.gc_model.specs.Table.{Table};
-ghost use Rattle.gc_policy.specs.Accounts.{Account, HoldsAccount};
+ghost use Rattle.gc_model.specs.Accounts.{Account, HoldsAccount};
 ghost use Rattle.gc_store.specs.Stores.{IsSameStore};
 ghost use Rattle.gc_image.specs.Text.{FitsImageType};
 ghost use Rattle.gc_image.specs.Well.{GlobalHolds};
 ghost use Rattle.gc_image_write.specs.Order.{AreClosed, AreTangled, early_named};
-ghost use Rattle.gc_image_collect.specs.Answers.{DropsImageRoots};
+ghost use Rattle.gc_save_image.specs.Answers.{DropsImageRoots};
 ghost use Rattle.gc_save_image.specs.Renumbering.{IsWritten};
 ghost use Rattle.gc_save_image.specs.Saves.{RefusesSave, Saved, Unwritten};
 
+use crate::collect::collect_objects;
+use crate::collect_fault::CollectFault;
 use crate::fault::SaveFault;
 use crate::kept::are_kept;
 use crate::renumber::{numbers_of, renumbered_globals, renumbered_objects};
 use gc_commands::Command;
 use gc_heap::GcHeap;
 use gc_image::{GlobalLine, Image, ObjectLine};
-use gc_image_collect::{CollectFault, collect_objects};
 use gc_image_write::{commands_of, order_of, write_image};
 use gc_store::Store;
 use gc_store::laws::stores_hold_tables;

@@ -16,7 +16,7 @@ use Rattle.gc_model.specs.OwnedRoots.{own, drop_handle, owned_among, owned_full,
 use Rattle.gc_model.specs.Live.{roots_full}
 use Rattle.gc_model.specs.Stores.{StoreView}
 use Rattle.gc_model.proofs.OwnedRoots.{owned_found}
-use Rattle.gc_policy.specs.Accounts.{Account, HoldsAccount}
+use Rattle.gc_model.specs.Accounts.{Account, HoldsAccount}
 use Rattle.gc_values.specs.declared.root.GcRootIndex.{GcRootIndex}
 use Rattle.gc_values.specs.declared.root.RawValue.{RawValue}
 use Rattle.gc_values.specs.declared.root.RawValue.TheVariants as raw

@@ -15,7 +15,7 @@ use Rattle.gc_model.specs.Stores.{StoreView}
 use Rattle.gc_values.specs.declared.root.GcRootIndex.{GcRootIndex}
 use Rattle.gc_values.specs.declared.root.RawValue.TheVariants as raw
 use Rattle.gc_values.specs.declared.faults.PlaceFault.TheVariants as fault
-use Rattle.gc_policy.specs.Accounts.{Account, HoldsAccount, with_held}
+use Rattle.gc_model.specs.Accounts.{Account, HoldsAccount, with_held}
 use Rattle.gc_store.specs.Stores.{IsSameStore}
 use Rattle.gc_store.specs.Places.{Places, LacksPlace}
 use Rattle.gc_commands.specs.declared.reply.Reply.TheVariants as reply
@@ -26,7 +26,7 @@ use Rattle.gc_script.specs.Slots.{register_at, RunnerView}
 use Rattle.gc_script.specs.State.{State, reference, HoldsState, with_heap, set_register, visible}
 use Rattle.gc_script.specs.Shapes.{CommandShape, making}
 use Rattle.gc_script.specs.Steps.{first_failing, heap_tests, made, lacks}
-use Rattle.gc_policy.specs.Policy.{PolicyState}
+use Rattle.gc_model.specs.Policy.{PolicyState}
 use Rattle.gc_script.specs.Policy.{policy_of, Came, CameDoing}
 use Rattle.gc_script.specs.Policy as policy
 use Rattle.gc_script.specs.Run.{RunsOn}

@@ -19,7 +19,7 @@ use Rattle.gc_values.specs.declared.root.RawValue.TheVariants as raw
 use Rattle.gc_commands.specs.declared.reply.Reply.{Reply}
 use Rattle.gc_commands.specs.declared.reply.Reply.TheVariants as reply
 use Rattle.gc_commands.specs.declared.reply.Refusal.{Refusal}
-use Rattle.gc_policy.specs.Accounts.{HoldsAccount}
+use Rattle.gc_model.specs.Accounts.{HoldsAccount}
 use Rattle.gc_store.specs.Stores.{IsSameStore}
 use Rattle.gc_store.specs.Roots.{NamesSerial, handle_of}
 use Rattle.gc_store.specs.Values.{RawStands, RootStands, IsReadAs}

@@ -12,7 +12,7 @@ use Rattle.gc_values.specs.declared.root.RawValue.{RawValue}
 use Rattle.gc_values.specs.declared.root.RawValue.TheVariants as raw
 use Rattle.gc_store.specs.Roots.{NamesSerial, handle_of}
 use Rattle.gc_store.specs.Stores.{IsSameStore}
-use Rattle.gc_policy.specs.Accounts.{Account, HoldsAccount}
+use Rattle.gc_model.specs.Accounts.{Account, HoldsAccount}
 use Rattle.gc_script.specs.Slots.{register_at, RunnerRest, RunnerView}
 use Rattle.gc_script.specs.State.{State, Held, reference, RegisterStands, HoldsState, with_heap, set_register}
 use Rattle.gc_script.proofs.StandLemmas.{Keeps, keeps_pushed, owned_kept, holds_kept}

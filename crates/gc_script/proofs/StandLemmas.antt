@@ -13,7 +13,7 @@ use Rattle.gc_values.specs.declared.root.RawValue.TheVariants as raw
 use Rattle.gc_store.specs.Roots.{NamesSerial}
 use Rattle.gc_store.specs.Stores.{IsSameStore}
 use Rattle.gc_values.specs.Words.{owned_id}
-use Rattle.gc_policy.specs.Accounts.{Account, HoldsAccount}
+use Rattle.gc_model.specs.Accounts.{Account, HoldsAccount}
 use Rattle.gc_script.specs.Slots.{register_at, RunnerRest, RunnerView, new_runner}
 use Rattle.gc_script.specs.State.{State, Held, number, reference, HeldOwned, owned, unrooted, RegisterStands, StandsOwned, HoldsState, begin, with_heap}
 

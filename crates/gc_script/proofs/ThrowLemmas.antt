@@ -14,7 +14,7 @@ use Rattle.gc_model.specs.Stores.{StoreView}
 use Rattle.gc_model.specs.Holds.{IsException}
 use Rattle.gc_model.proofs.HoldsParts.{same_held-itself}
 use Rattle.gc_model.proofs.HoldsPending.{holds_pending_set}
-use Rattle.gc_policy.specs.Accounts.{HoldsAccount}
+use Rattle.gc_model.specs.Accounts.{HoldsAccount}
 use Rattle.gc_values.specs.declared.root.GcRootIndex.{GcRootIndex}
 use Rattle.gc_values.specs.declared.root.RawValue.TheVariants as raw
 use Rattle.gc_values.specs.declared.root.RootFault.{RootFault}

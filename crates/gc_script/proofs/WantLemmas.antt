@@ -12,7 +12,7 @@ use Rattle.gc_model.specs.Globals.{global_at}
 use Rattle.gc_model.specs.Live.{roots_full}
 use Rattle.gc_model.specs.Reads.{makes_root}
 use Rattle.gc_model.specs.Stores.{StoreView}
-use Rattle.gc_policy.specs.Accounts.{Account}
+use Rattle.gc_model.specs.Accounts.{Account}
 use Rattle.gc_values.specs.declared.root.RawValue.{RawValue}
 use Rattle.gc_values.specs.declared.root.RootFault.{RootFault}
 use Rattle.gc_values.specs.declared.root.RootFault.TheVariants as fault

@@ -5,8 +5,8 @@ use Rattle.gc_model.specs.Values.{Object}
 use Rattle.gc_model.specs.Table.{make}
 use Rattle.gc_model.specs.Sizes.{object_size}
 use Rattle.gc_model.specs.Allocation.{Limits}
-use Rattle.gc_policy.specs.Accounts.{with_held}
-use Rattle.gc_policy.specs.Policy.{PolicyState, policy_state, IsPlaceIn, Prepares, Prepared, ExpandsTable, Expanded}
+use Rattle.gc_model.specs.Accounts.{with_held}
+use Rattle.gc_model.specs.Policy.{PolicyState, policy_state, IsPlaceIn, Prepares, Prepared, ExpandsTable, Expanded}
 use Rattle.gc_store.specs.Expansion.{MayCollectTable}
 use Rattle.gc_commands.specs.declared.command.Command.{Command}
 use Rattle.gc_commands.specs.declared.reply.Reply.{Reply}

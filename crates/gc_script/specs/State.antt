@@ -6,7 +6,7 @@ use Rattle.gc_owner.specs.declared.entry.GcClass.{GcClass}
 use Rattle.gc_model.specs.Values.{Value, numeric, i32, i64, f32, f64, v128, number_bits}
 use Rattle.gc_model.specs.Table.{Table}
 use Rattle.gc_model.specs.Stores.{StoreView}
-use Rattle.gc_policy.specs.Accounts.{Account, no_account, HoldsAccount}
+use Rattle.gc_model.specs.Accounts.{Account, no_account, HoldsAccount}
 use Rattle.gc_store.specs.Roots.{NamesSerial, owned_handle}
 use Rattle.gc_values.specs.declared.root.RawValue.{RawValue}
 use Rattle.gc_values.specs.declared.root.RawValue.TheVariants as raw

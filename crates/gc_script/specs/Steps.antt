@@ -24,7 +24,7 @@ use Rattle.gc_commands.specs.declared.reply.Reply.{Reply}
 use Rattle.gc_commands.specs.declared.reply.Reply.TheVariants as reply
 use Rattle.gc_commands.specs.declared.reply.Refusal.{Refusal}
 use Rattle.gc_commands.specs.declared.reply.Refusal.TheVariants as refusal
-use Rattle.gc_policy.specs.Accounts.{Account}
+use Rattle.gc_model.specs.Accounts.{Account}
 use Rattle.gc_store.specs.IncrementCounts.{TakesIncrements}
 use Rattle.gc_store.specs.Slots.{slot_value}
 use Rattle.gc_script.specs.State.{State, reference, HeldOwned, with_table, with_account, with_heap, set_register, visible, over}

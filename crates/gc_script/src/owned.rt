@@ -3,7 +3,7 @@
 ghost use Rattle.std.specs.Prelude.{◌≡◌, ℕ, Ok, Option, OnErr};
 ghost use Rattle.gc_commands.specs.declared.command.Command.TheVariants as Command;
 ghost use Rattle.gc_model.specs.Table.{Table};
-ghost use Rattle.gc_policy.specs.Accounts.{Account, HoldsAccount};
+ghost use Rattle.gc_model.specs.Accounts.{Account, HoldsAccount};
 ghost use Rattle.gc_script.specs.Endings.{answer_of, ended};
 ghost use Rattle.gc_script.specs.State.{State, HeldOwned, StandsOwned, HoldsState};
 ghost use Rattle.gc_script.specs.Shapes.{give_up};

@@ -5,7 +5,7 @@ ghost use Rattle.gc_commands.specs.declared.command.Command.TheVariants as Comma
 ghost use Rattle.gc_commands.specs.declared.command.Operand.{Operand};
 ghost use Rattle.gc_model.specs.Holds.{HoldsTable};
 ghost use Rattle.gc_model.specs.Table.{Table};
-ghost use Rattle.gc_policy.specs.Accounts.{Account, HoldsAccount};
+ghost use Rattle.gc_model.specs.Accounts.{Account, HoldsAccount};
 ghost use Rattle.gc_script.specs.Endings.{ended};
 ghost use Rattle.gc_script.specs.State.{State, HoldsState, RegisterStands};
 ghost use Rattle.gc_script.specs.Given.{held_operand, is_constant};

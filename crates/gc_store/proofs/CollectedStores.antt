@@ -6,11 +6,11 @@ use Rattle.gc_model.specs.Allocation.{Limits}
 use Rattle.gc_model.specs.Stores.{StoreView}
 use Rattle.gc_model.specs.Holds.{HoldsTable, HoldsKept}
 use Rattle.gc_owner.specs.Owners.{OwnerView, Collects}
-use Rattle.gc_policy.specs.Accounts.{Account, HoldsAccount}
-use Rattle.gc_policy.specs.Policy.{policy_state}
-use Rattle.gc_policy.specs.Shown.{shown}
-use Rattle.gc_policy.proofs.RootsShown.{SlotsInFrames}
-use Rattle.gc_policy.proofs.AccountLemmas.{collected_account, some_account}
+use Rattle.gc_model.specs.Accounts.{Account, HoldsAccount}
+use Rattle.gc_model.specs.Policy.{policy_state}
+use Rattle.gc_model.specs.Shown.{shown}
+use Rattle.gc_model.proofs.RootsShown.{SlotsInFrames}
+use Rattle.gc_model.proofs.AccountLemmas.{collected_account, some_account}
 use Rattle.gc_store.specs.Expansion.{CollectsStore}
 use Rattle.gc_store.specs.Stores.{IsSoundStore}
 use Rattle.gc_values.proofs.Keeping.{keeps-collected}

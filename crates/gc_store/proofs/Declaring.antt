@@ -11,8 +11,8 @@ use Rattle.gc_model.specs.Stores.{StoreView}
 use Rattle.gc_model.proofs.HoldsDeclare.{with_type, holds_declare}
 use Rattle.gc_owner.specs.Declares.{AppendsType}
 use Rattle.gc_owner.specs.Owners.{OwnerView}
-use Rattle.gc_policy.specs.Accounts.{Account, HoldsAccount}
-use Rattle.gc_policy.proofs.AccountLemmas.{account_kept}
+use Rattle.gc_model.specs.Accounts.{Account, HoldsAccount}
+use Rattle.gc_model.proofs.AccountLemmas.{account_kept}
 use Rattle.gc_values.specs.declared.engine.StoreId.{StoreId}
 use Rattle.gc_values.specs.declared.config.HeapConfig.{HeapConfig}
 use Rattle.gc_store.specs.Stores.{StoreTables, store_view, IsSoundStore}

@@ -10,13 +10,13 @@ use Rattle.gc_owner.specs.declared.pages.PagesFault.{PagesFault}
 use Rattle.gc_owner.specs.declared.pages.PagesFault.TheVariants as pages_fault
 use Rattle.gc_owner.specs.Owners.{OwnerView}
 use Rattle.gc_owner.specs.Growing.{OwnerState, BeginsHeap, GrowsReadied, Expands}
-use Rattle.gc_policy.specs.Accounts.{Account, HoldsAccount}
-use Rattle.gc_policy.specs.Policy as policy
-use Rattle.gc_policy.specs.Policy.{PolicyState, table_after}
-use Rattle.gc_policy.specs.Shown.{shown}
-use Rattle.gc_policy.proofs.Simulation.{ready_follows}
-use Rattle.gc_policy.proofs.GrowthSimulation.{Answered, growth_follows}
-use Rattle.gc_policy.proofs.MakingSimulation.{Shows, making_follows, refusal_follows, no_heap_follows}
+use Rattle.gc_model.specs.Accounts.{Account, HoldsAccount}
+use Rattle.gc_model.specs.Policy as policy
+use Rattle.gc_model.specs.Policy.{PolicyState, table_after}
+use Rattle.gc_model.specs.Shown.{shown}
+use Rattle.gc_model.proofs.Simulation.{ready_follows}
+use Rattle.gc_model.proofs.GrowthSimulation.{Answered, growth_follows}
+use Rattle.gc_model.proofs.MakingSimulation.{Shows, making_follows, refusal_follows, no_heap_follows}
 use Rattle.gc_store.specs.declared.grow.GrowFault.{GrowFault}
 use Rattle.gc_store.specs.declared.grow.GrowFault.TheVariants as fault
 use Rattle.gc_store.specs.Expansion.{GrowsStore, ExpandsStore}

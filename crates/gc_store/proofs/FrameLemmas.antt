@@ -22,10 +22,10 @@ use Rattle.gc_model.proofs.FramesSet.{newest-stand}
 use Rattle.gc_model.proofs.HoldsFrames.{with_frame, without_frame, holds_frame_pushed, holds_frame_popped, holds_slot_set}
 use Rattle.gc_model.proofs.HoldsFrames as holds_frames
 use Rattle.gc_model.proofs.SlotsSet.{slot_beside}
-use Rattle.gc_policy.specs.Accounts.{Account, IsAccount, HoldsAccount}
-use Rattle.gc_policy.specs.Shown.{frames_of}
-use Rattle.gc_policy.proofs.AccountLemmas.{account_kept}
-use Rattle.gc_policy.proofs.Frames.{frames-pushed, frames-popped, frames-set, frames-count, has_slot, slot_read}
+use Rattle.gc_model.specs.Accounts.{Account, IsAccount, HoldsAccount}
+use Rattle.gc_model.specs.Shown.{frames_of}
+use Rattle.gc_model.proofs.AccountLemmas.{account_kept}
+use Rattle.gc_model.proofs.Frames.{frames-pushed, frames-popped, frames-set, frames-count, has_slot, slot_read}
 use Rattle.gc_values.specs.declared.config.HeapConfig.{HeapConfig}
 use Rattle.gc_values.specs.declared.engine.StoreId.{StoreId}
 use Rattle.gc_values.specs.declared.root.GcRootIndex.{GcRootIndex}

@@ -9,8 +9,8 @@ use Rattle.gc_model.specs.Stores.{StoreView, with_host_at}
 use Rattle.gc_model.specs.Holds.{Placing, Holds, IsHostAt}
 use Rattle.gc_model.proofs.HoldsHost.{holds_set_host}
 use Rattle.gc_owner.specs.Owners.{OwnerView}
-use Rattle.gc_policy.specs.Accounts.{Account, HoldsAccount, IsAccount}
-use Rattle.gc_policy.proofs.AccountLemmas.{account_kept}
+use Rattle.gc_model.specs.Accounts.{Account, HoldsAccount, IsAccount}
+use Rattle.gc_model.proofs.AccountLemmas.{account_kept}
 use Rattle.gc_values.specs.declared.engine.StoreId.{StoreId}
 use Rattle.gc_values.specs.declared.config.HeapConfig.{HeapConfig}
 use Rattle.gc_store.specs.HostSteps.{HasHostId}

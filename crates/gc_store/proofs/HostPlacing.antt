@@ -31,15 +31,15 @@ use Rattle.gc_owner.specs.Growing.{OwnerState, state_of, owner_rules}
 use Rattle.gc_owner.specs.Retry.{Paused, at_first}
 use Rattle.gc_owner.specs.HostValues.{with_host}
 use Rattle.gc_owner.specs.HostValues.{PlacesExternal as OwnerPlaces}
-use Rattle.gc_policy.specs.Accounts.{Account, HoldsAccount, is_due, with_held}
-use Rattle.gc_policy.specs.HostMaking.{MadeHost}
-use Rattle.gc_policy.specs.Policy.{policy_state}
-use Rattle.gc_policy.specs.Shown.{shown, DuesOwner}
-use Rattle.gc_policy.proofs.CountedTries.{counted_store}
-use Rattle.gc_policy.proofs.HeldHosts.{part_len}
-use Rattle.gc_policy.proofs.HeapGaps.{told_more}
-use Rattle.gc_policy.proofs.HeldMore.{held_more}
-use Rattle.gc_policy.proofs.HostRetry.{taken_lacks, taken_pauses}
+use Rattle.gc_model.specs.Accounts.{Account, HoldsAccount, is_due, with_held}
+use Rattle.gc_model.specs.HostMaking.{MadeHost}
+use Rattle.gc_model.specs.Policy.{policy_state}
+use Rattle.gc_model.specs.Shown.{shown, DuesOwner}
+use Rattle.gc_model.proofs.CountedTries.{counted_store}
+use Rattle.gc_model.proofs.HeldHosts.{part_len}
+use Rattle.gc_model.proofs.HeapGaps.{told_more}
+use Rattle.gc_model.proofs.HeldMore.{held_more}
+use Rattle.gc_model.proofs.HostRetry.{taken_lacks, taken_pauses}
 use Rattle.gc_store.specs.declared.hosts.PlaceHostFault.{PlaceHostFault}
 use Rattle.gc_store.specs.declared.hosts.PlaceHostFault.TheVariants as fault
 use Rattle.gc_values.specs.declared.root.GcRootIndex.{GcRootIndex}

@@ -11,9 +11,9 @@ use Rattle.gc_heap.specs.Collection.{Start, IsIncrements}
 use Rattle.gc_heap.specs.declared.collection.GcProgress.{GcProgress}
 use Rattle.gc_heap.specs.declared.collection.GcProgress.TheVariants as progress
 use Rattle.gc_owner.specs.Owners.{OwnerValue, OwnerView, Kind, IsOwnerUnderWay, Increments, IsEnded, Trims, Collects, start_of}
-use Rattle.gc_policy.specs.Shown.{shown}
-use Rattle.gc_policy.proofs.RootsShown.{SlotsInFrames}
-use Rattle.gc_policy.proofs.ReachedNumber.{reached, reached_number, few_reached, places_number}
+use Rattle.gc_model.specs.Shown.{shown}
+use Rattle.gc_model.proofs.RootsShown.{SlotsInFrames}
+use Rattle.gc_model.proofs.ReachedNumber.{reached, reached_number, few_reached, places_number}
 use Rattle.gc_store.specs.IncrementCounts.{increments, increments_where, TakesIncrements, CountsIncrements}
 
 -- A collection that is dropped after an increment has ended: it was complete, or the rest was done.

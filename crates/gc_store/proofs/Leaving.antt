@@ -10,8 +10,8 @@ use Rattle.gc_model.specs.Words.{Placing}
 use Rattle.gc_model.proofs.HoldsLeave.{without_roots, holds_leave}
 use Rattle.gc_owner.specs.RootColumns.{left_scope}
 use Rattle.gc_owner.specs.Owners.{OwnerView, ChangesRoots}
-use Rattle.gc_policy.specs.Accounts.{Account, HoldsAccount}
-use Rattle.gc_policy.proofs.AccountLemmas.{account_kept}
+use Rattle.gc_model.specs.Accounts.{Account, HoldsAccount}
+use Rattle.gc_model.proofs.AccountLemmas.{account_kept}
 use Rattle.gc_values.specs.declared.config.HeapConfig.{HeapConfig}
 use Rattle.gc_values.specs.declared.engine.StoreId.{StoreId}
 use Rattle.gc_store.specs.OwnedWords.{HoldsThere}

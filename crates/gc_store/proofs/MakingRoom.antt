@@ -5,11 +5,11 @@ use Rattle.gc_model.specs.Table.{Table}
 use Rattle.gc_model.specs.Allocation.{Limits}
 use Rattle.gc_model.specs.Stores.{StoreView}
 use Rattle.gc_heap.specs.Content.{IsHeap}
-use Rattle.gc_policy.specs.Accounts.{Account, HoldsAccount}
+use Rattle.gc_model.specs.Accounts.{Account, HoldsAccount}
 use Rattle.gc_store.specs.Expansion.{CollectsStore, CollectsFor, ExpandsStore, WantsPages, MayCollectTable, enough, grows, unused_bytes}
 use Rattle.gc_store.specs.Places.{MayGetPages}
-use Rattle.gc_policy.specs.Policy.{PolicyState, policy_state}
-use Rattle.gc_policy.proofs.AccountLemmas.{allocated_is}
+use Rattle.gc_model.specs.Policy.{PolicyState, policy_state}
+use Rattle.gc_model.proofs.AccountLemmas.{allocated_is}
 use Rattle.gc_store.proofs.Expanding.{grows_pages}
 
 -- the bytes of the heap beside the allocated ones are those by the account

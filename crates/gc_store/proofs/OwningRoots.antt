@@ -20,9 +20,9 @@ use Rattle.gc_model.specs.Holds.{Placing, IsWord, Holds}
 use Rattle.gc_model.proofs.Members.{map_among, among_map, pairs_map}
 use Rattle.gc_model.proofs.OwnedRoots.{trimmed_held}
 use Rattle.gc_model.proofs.HoldsOwned.{holds_owned, holds_trimmed}
-use Rattle.gc_policy.proofs.HeldSums.{sum_part}
-use Rattle.gc_policy.specs.Accounts.{Account, HoldsAccount}
-use Rattle.gc_policy.proofs.AccountLemmas.{account_kept, own_account}
+use Rattle.gc_model.proofs.HeldSums.{sum_part}
+use Rattle.gc_model.specs.Accounts.{Account, HoldsAccount}
+use Rattle.gc_model.proofs.AccountLemmas.{account_kept, own_account}
 use Rattle.gc_values.specs.declared.config.HeapConfig.{HeapConfig}
 use Rattle.gc_values.specs.declared.engine.StoreId.{StoreId}
 use Rattle.gc_values.specs.declared.root.GcRootIndex.{GcRootIndex}

@@ -9,8 +9,8 @@ use Rattle.gc_model.specs.Pending.{with_pending, take_pending}
 use Rattle.gc_model.specs.Stores.{StoreView}
 use Rattle.gc_model.specs.Holds.{Placing, IsWord, Holds, IsException, ThrownBy}
 use Rattle.gc_model.proofs.HoldsPending.{holds_pending_set}
-use Rattle.gc_policy.specs.Accounts.{Account, IsAccount, HoldsAccount}
-use Rattle.gc_policy.proofs.AccountLemmas.{account_kept}
+use Rattle.gc_model.specs.Accounts.{Account, IsAccount, HoldsAccount}
+use Rattle.gc_model.proofs.AccountLemmas.{account_kept}
 use Rattle.gc_values.specs.declared.config.HeapConfig.{HeapConfig}
 use Rattle.gc_values.specs.declared.engine.StoreId.{StoreId}
 use Rattle.gc_values.specs.declared.root.GcRootIndex.{GcRootIndex}

@@ -36,17 +36,17 @@ use Rattle.gc_heap.specs.Content.{IsHeap}
 use Rattle.gc_heap.specs.Heap.{IsTooLarge, allocated_after}
 use Rattle.gc_heap.proofs.NumberLemmas.{held_added}
 use Rattle.gc_model.proofs.ObjectStands.{array_front}
-use Rattle.gc_policy.specs.Accounts.{Account, HoldsAccount, is_due, with_held}
-use Rattle.gc_policy.specs.Policy as policy
-use Rattle.gc_policy.specs.Policy.{PolicyState, policy_state, IsPlaceIn, count_try, Prepares}
-use Rattle.gc_policy.specs.Shown.{shown}
-use Rattle.gc_policy.proofs.CountedTries.{counted_store, counted_holds}
-use Rattle.gc_policy.proofs.HeapGaps.{place_in, told_more}
-use Rattle.gc_policy.proofs.HeldMore.{held_more}
-use Rattle.gc_policy.proofs.KeptPlaces.{fits-stay}
-use Rattle.gc_policy.proofs.MakingSimulation.{Shows, FollowsBeginning, beginning_follows, got_pages, stays_on}
-use Rattle.gc_policy.proofs.RetrySimulation.{MayHaveGrown, retry_follows}
-use Rattle.gc_policy.proofs.RootsShown.{SlotsInFrames}
+use Rattle.gc_model.specs.Accounts.{Account, HoldsAccount, is_due, with_held}
+use Rattle.gc_model.specs.Policy as policy
+use Rattle.gc_model.specs.Policy.{PolicyState, policy_state, IsPlaceIn, count_try, Prepares}
+use Rattle.gc_model.specs.Shown.{shown}
+use Rattle.gc_model.proofs.CountedTries.{counted_store, counted_holds}
+use Rattle.gc_model.proofs.HeapGaps.{place_in, told_more}
+use Rattle.gc_model.proofs.HeldMore.{held_more}
+use Rattle.gc_model.proofs.KeptPlaces.{fits-stay}
+use Rattle.gc_model.proofs.MakingSimulation.{Shows, FollowsBeginning, beginning_follows, got_pages, stays_on}
+use Rattle.gc_model.proofs.RetrySimulation.{MayHaveGrown, retry_follows}
+use Rattle.gc_model.proofs.RootsShown.{SlotsInFrames}
 use Rattle.gc_values.specs.declared.request.Contents.{Contents}
 use Rattle.gc_values.specs.declared.request.Place.{Place}
 use Rattle.gc_values.specs.declared.root.GcRootIndex.{GcRootIndex}

@@ -18,17 +18,17 @@ use Rattle.gc_values.specs.declared.request.Contents.{Contents}
 use Rattle.gc_values.specs.declared.request.Place.{Place}
 use Rattle.gc_values.specs.declared.faults.PlaceFault.{PlaceFault}
 use Rattle.gc_values.specs.declared.faults.PlaceFault.TheVariants as fault
-use Rattle.gc_policy.specs.Accounts.{Account, HoldsAccount, counted, is_due}
-use Rattle.gc_policy.specs.Policy as policy
-use Rattle.gc_policy.specs.Policy.{PolicyState, policy_state, count_try, Prepares, Prepared}
-use Rattle.gc_policy.specs.Shown.{shown}
+use Rattle.gc_model.specs.Accounts.{Account, HoldsAccount, counted, is_due}
+use Rattle.gc_model.specs.Policy as policy
+use Rattle.gc_model.specs.Policy.{PolicyState, policy_state, count_try, Prepares, Prepared}
+use Rattle.gc_model.specs.Shown.{shown}
 use Rattle.gc_values.specs.Making.{BeginsMaking, MakesRooted}
 use Rattle.gc_store.specs.Places.{HasIds, Places, LacksPlace, MayGetPages, size_in_table}
 use Rattle.gc_store.specs.Stores.{is_full}
-use Rattle.gc_policy.proofs.CountedTries.{counted_store, counted_holds}
-use Rattle.gc_policy.proofs.KeptPlaces.{lacks-stay}
-use Rattle.gc_policy.proofs.MakingSimulation.{Shows, FollowsBeginning, refusal_follows, no_heap_follows, got_pages, stays_on}
-use Rattle.gc_policy.proofs.RetrySimulation.{MayHaveGrown, retry_follows, pause_follows}
+use Rattle.gc_model.proofs.CountedTries.{counted_store, counted_holds}
+use Rattle.gc_model.proofs.KeptPlaces.{lacks-stay}
+use Rattle.gc_model.proofs.MakingSimulation.{Shows, FollowsBeginning, refusal_follows, no_heap_follows, got_pages, stays_on}
+use Rattle.gc_model.proofs.RetrySimulation.{MayHaveGrown, retry_follows, pause_follows}
 use Rattle.gc_view.specs.Heaps.{HeapObject}
 use Rattle.gc_values.proofs.Keeping.{counts_of, Keeps, keeps-trans, keeps-making, keeps-retried, keeps-paused, same_count}
 use Rattle.gc_store.proofs.NewObjects.{IsNew}

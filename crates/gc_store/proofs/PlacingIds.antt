@@ -9,9 +9,9 @@ use Rattle.gc_model.specs.SideValues.{InternedBy, InternedIds, SideValues, conts
 use Rattle.gc_model.specs.Allocation.{Limits}
 use Rattle.gc_model.specs.Stores.{StoreView}
 use Rattle.gc_model.proofs.HoldsInterned.{with_ids}
-use Rattle.gc_policy.specs.Accounts.{Account, HoldsAccount}
-use Rattle.gc_policy.specs.Policy as policy
-use Rattle.gc_policy.specs.Policy.{policy_state}
+use Rattle.gc_model.specs.Accounts.{Account, HoldsAccount}
+use Rattle.gc_model.specs.Policy as policy
+use Rattle.gc_model.specs.Policy.{policy_state}
 use Rattle.gc_values.specs.declared.faults.PlaceFault.{PlaceFault}
 use Rattle.gc_values.specs.declared.faults.PlaceFault.TheVariants as fault
 use Rattle.gc_values.specs.declared.interned.InternedValues.{InternedValues}

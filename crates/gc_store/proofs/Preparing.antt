@@ -15,16 +15,16 @@ use Rattle.gc_owner.specs.Owners.{OwnerView, CanBegin}
 use Rattle.gc_owner.specs.Growing.{OwnerState, state_of, owner_rules, NotBegun}
 use Rattle.gc_owner.specs.Makes.{LacksSpace}
 use Rattle.gc_owner.specs.Retry.{Rules, Retry, Paused, HasFoundRoom, at_once, after_collection, after_both, after_growth, after_refusal}
-use Rattle.gc_policy.specs.Accounts.{Account, HoldsAccount, counted, is_due, with_held}
-use Rattle.gc_policy.specs.Policy as policy
-use Rattle.gc_policy.specs.Policy.{PolicyState, policy_state, IsPlaceIn, count_try, Prepares, Prepared}
-use Rattle.gc_policy.specs.Shown.{shown}
-use Rattle.gc_policy.proofs.CountedTries.{counted_store, counted_holds}
-use Rattle.gc_policy.proofs.HeapGaps.{place_in}
-use Rattle.gc_policy.proofs.KeptPlaces.{fits-stay, lacks-stay}
-use Rattle.gc_policy.proofs.MakingSimulation.{Shows, FollowsBeginning, beginning_follows, refusal_follows, no_heap_follows, got_pages, stays_on}
-use Rattle.gc_policy.proofs.RetrySimulation.{MayHaveGrown, retry_follows, pause_follows}
-use Rattle.gc_policy.proofs.RootsShown.{SlotsInFrames}
+use Rattle.gc_model.specs.Accounts.{Account, HoldsAccount, counted, is_due, with_held}
+use Rattle.gc_model.specs.Policy as policy
+use Rattle.gc_model.specs.Policy.{PolicyState, policy_state, IsPlaceIn, count_try, Prepares, Prepared}
+use Rattle.gc_model.specs.Shown.{shown}
+use Rattle.gc_model.proofs.CountedTries.{counted_store, counted_holds}
+use Rattle.gc_model.proofs.HeapGaps.{place_in}
+use Rattle.gc_model.proofs.KeptPlaces.{fits-stay, lacks-stay}
+use Rattle.gc_model.proofs.MakingSimulation.{Shows, FollowsBeginning, beginning_follows, refusal_follows, no_heap_follows, got_pages, stays_on}
+use Rattle.gc_model.proofs.RetrySimulation.{MayHaveGrown, retry_follows, pause_follows}
+use Rattle.gc_model.proofs.RootsShown.{SlotsInFrames}
 use Rattle.gc_values.specs.declared.root.GcRootIndex.{GcRootIndex}
 use Rattle.gc_values.specs.declared.root.RootSlot.TheVariants as slot
 use Rattle.gc_values.specs.Making.{BeginsMaking}

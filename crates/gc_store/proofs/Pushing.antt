@@ -11,8 +11,8 @@ use Rattle.gc_model.proofs.HoldsPush.{holds_push}
 use Rattle.gc_heap.specs.Collection.{IsWordOf}
 use Rattle.gc_owner.specs.RootColumns.{RootsView, with_room, with_scoped}
 use Rattle.gc_owner.specs.Owners.{OwnerView, raised}
-use Rattle.gc_policy.specs.Accounts.{Account, IsAccount, HoldsAccount}
-use Rattle.gc_policy.proofs.AccountLemmas.{account_kept, own_account}
+use Rattle.gc_model.specs.Accounts.{Account, IsAccount, HoldsAccount}
+use Rattle.gc_model.proofs.AccountLemmas.{account_kept, own_account}
 use Rattle.gc_values.specs.declared.config.HeapConfig.{HeapConfig}
 use Rattle.gc_values.specs.declared.engine.StoreId.{StoreId}
 use Rattle.gc_values.specs.declared.root.GcRootIndex.{GcRootIndex}

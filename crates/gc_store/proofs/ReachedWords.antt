@@ -37,16 +37,16 @@ use Rattle.gc_model.proofs.OwnedRoots.{trimmed_held}
 use Rattle.gc_model.proofs.ReadingBack.{storage_reference, reference_width}
 use Rattle.gc_model.proofs.ObjectStands.{stands_by_shape, value_not_host, value_lying, slot_stands}
 use Rattle.gc_model.proofs.PointParts.{is_reference}
-use Rattle.gc_policy.specs.Shown.{shown}
-use Rattle.gc_policy.proofs.AccountLemmas.{trimmed_table}
-use Rattle.gc_policy.proofs.RootsShown.{SlotsInFrames, AllHeld, IsRooted, frames_named, scoped_rooted, slot_rooted, global_rooted, owned_rooted, pending_rooted}
-use Rattle.gc_policy.proofs.Columns.{none_in}
-use Rattle.gc_policy.proofs.Frames.{frame_words}
-use Rattle.gc_policy.proofs.CollectedLists.{get_contains, contains_map, contains_flat, map_get}
-use Rattle.gc_policy.proofs.CollectedOffsets.{traced_slots, slot_followed}
-use Rattle.gc_policy.proofs.CollectedKept.{traced_here, reached_position}
-use Rattle.gc_policy.proofs.HeldEntries.{all_others}
-use Rattle.gc_policy.proofs.HeldSums.{no_other}
+use Rattle.gc_model.specs.Shown.{shown}
+use Rattle.gc_model.proofs.AccountLemmas.{trimmed_table}
+use Rattle.gc_model.proofs.RootsShown.{SlotsInFrames, AllHeld, IsRooted, frames_named, scoped_rooted, slot_rooted, global_rooted, owned_rooted, pending_rooted}
+use Rattle.gc_model.proofs.Columns.{none_in}
+use Rattle.gc_model.proofs.Frames.{frame_words}
+use Rattle.gc_model.proofs.CollectedLists.{get_contains, contains_map, contains_flat, map_get}
+use Rattle.gc_model.proofs.CollectedOffsets.{traced_slots, slot_followed}
+use Rattle.gc_model.proofs.CollectedKept.{traced_here, reached_position}
+use Rattle.gc_model.proofs.HeldEntries.{all_others}
+use Rattle.gc_model.proofs.HeldSums.{no_other}
 use Rattle.gc_store.specs.IncrementCounts.{increments, increments_where, TakesIncrements}
 
 -- Roots

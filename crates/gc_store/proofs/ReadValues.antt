@@ -13,7 +13,7 @@ use Rattle.gc_model.specs.Stores.{StoreView}
 use Rattle.gc_model.specs.Forms.{Names, InternedIds, IsContCode, IsIdCode}
 use Rattle.gc_model.specs.Holds.{Placing, IsWord, Holds}
 use Rattle.gc_model.proofs.Words.{place_even}
-use Rattle.gc_policy.specs.Accounts.{Account, HoldsAccount, IsAccount}
+use Rattle.gc_model.specs.Accounts.{Account, HoldsAccount, IsAccount}
 use Rattle.gc_values.specs.declared.root.GcRootIndex.{GcRootIndex}
 use Rattle.gc_values.specs.declared.root.RawValue.{RawValue}
 use Rattle.gc_values.specs.declared.root.RawValue.TheVariants as raw

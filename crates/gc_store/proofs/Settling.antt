@@ -14,10 +14,10 @@ use Rattle.gc_owner.specs.RootColumns.{RootsView, AreFrames, scoped_words, owned
 use Rattle.gc_owner.specs.RootColumns as columns
 use Rattle.gc_owner.specs.Owners.{OwnerView, Collects, start_of}
 use Rattle.gc_model.proofs.Members.{filter_among}
-use Rattle.gc_policy.proofs.CollectedLists.{contains_map, get_contains}
-use Rattle.gc_policy.proofs.Columns.{listed_word}
-use Rattle.gc_policy.proofs.Frames.{frame_words}
-use Rattle.gc_policy.proofs.RootsShown.{SlotsInFrames}
+use Rattle.gc_model.proofs.CollectedLists.{contains_map, get_contains}
+use Rattle.gc_model.proofs.Columns.{listed_word}
+use Rattle.gc_model.proofs.Frames.{frame_words}
+use Rattle.gc_model.proofs.RootsShown.{SlotsInFrames}
 use Rattle.gc_store.specs.Settled.{IsSettled}
 use Rattle.gc_store.specs.Stores.{StoreTables, store_view}
 use Rattle.gc_values.specs.declared.engine.StoreId.{StoreId}

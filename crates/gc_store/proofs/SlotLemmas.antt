@@ -16,8 +16,8 @@ use Rattle.gc_model.specs.Holds.{Placing, IsWord, Holds}
 use Rattle.gc_model.proofs.Lists.{all_replicated}
 use Rattle.gc_model.proofs.SlotsSet.{slot_beside}
 use Rattle.gc_model.proofs.HoldsGlobals.{holds_global_set}
-use Rattle.gc_policy.specs.Accounts.{Account, IsAccount, HoldsAccount}
-use Rattle.gc_policy.proofs.AccountLemmas.{account_kept}
+use Rattle.gc_model.specs.Accounts.{Account, IsAccount, HoldsAccount}
+use Rattle.gc_model.proofs.AccountLemmas.{account_kept}
 use Rattle.gc_values.specs.declared.config.HeapConfig.{HeapConfig}
 use Rattle.gc_values.specs.declared.engine.StoreId.{StoreId}
 use Rattle.gc_values.specs.declared.root.GcRootIndex.{GcRootIndex}

@@ -15,9 +15,9 @@ use Rattle.gc_heap.specs.Content.{IsHeap}
 use Rattle.gc_owner.specs.Owners.{OwnerView, new_owner, spent_owner}
 use Rattle.gc_model.specs.Reach.{AreAll}
 use Rattle.gc_model.specs.Holds.{Holds, KindHolds}
-use Rattle.gc_policy.specs.Collects.{HasPlace}
-use Rattle.gc_policy.specs.Accounts.{no_account}
-use Rattle.gc_policy.proofs.HeapGaps.{told_nowhere}
+use Rattle.gc_model.specs.Collects.{HasPlace}
+use Rattle.gc_model.specs.Accounts.{no_account}
+use Rattle.gc_model.proofs.HeapGaps.{told_nowhere}
 use Rattle.gc_values.specs.declared.engine.StoreId.{StoreId}
 use Rattle.gc_values.specs.declared.config.HeapConfig.{HeapConfig}
 use Rattle.gc_values.specs.declared.interned.InternedValues.{InternedValues}

@@ -13,7 +13,7 @@ use Rattle.gc_values.specs.declared.config.HeapConfig.{HeapConfig}
 use Rattle.gc_store.specs.Stores.{StoreTables, store_view, IsSoundStore}
 use Rattle.gc_store.specs.Suspensions.{SuspendedView, suspended_view, BeganSound, IsSuspended, waits, goes, is_over}
 use Rattle.gc_store.specs.Collectings.{IsCollected, IsTrimmedStore, WasStore, IsTrimmedFrom, IsAsked, IsRunning, IsOpen, IsClosed}
-use Rattle.gc_policy.proofs.CollectedStore.{unmade_kept}
+use Rattle.gc_model.proofs.CollectedStore.{unmade_kept}
 use Rattle.gc_store.proofs.CollectedStores.{sound_collected, kept_collected, store_collected}
 use Rattle.gc_store.proofs.Settling.{settled}
 use Rattle.gc_store.proofs.OwningRoots.{trimmed_there, sound_trimmed}

@@ -15,9 +15,9 @@ use Rattle.gc_model.specs.Allocation.{Limits}
 use Rattle.gc_model.specs.Table.{Table, start}
 use Rattle.gc_model.specs.Stores.{StoreView, empty_store}
 use Rattle.gc_model.specs.Holds.{HoldsTable, HoldsKept}
-use Rattle.gc_policy.specs.Accounts.{Account, no_account, HoldsAccount}
-use Rattle.gc_policy.specs.Policy.{policy_state}
-use Rattle.gc_policy.specs.Shown.{shown}
+use Rattle.gc_model.specs.Accounts.{Account, no_account, HoldsAccount}
+use Rattle.gc_model.specs.Policy.{policy_state}
+use Rattle.gc_model.specs.Shown.{shown}
 use Rattle.gc_store.specs.Expansion.{CollectsStore}
 use Rattle.gc_store.specs.IncrementCounts.{TakesIncrements}
 use Rattle.gc_store.specs.Settled.{IsSettled}

@@ -6,9 +6,9 @@ use Rattle.gc_model.specs.Allocation.{Limits, Grows}
 use Rattle.gc_model.specs.Stores.{StoreView}
 use Rattle.gc_store.specs.declared.grow.GrowFault.{GrowFault}
 use Rattle.gc_store.specs.declared.grow.GrowFault.TheVariants as fault
-use Rattle.gc_policy.specs.Accounts.{HoldsAccount}
+use Rattle.gc_model.specs.Accounts.{HoldsAccount}
 use Rattle.gc_store.specs.Places.{MayGetPages}
-use Rattle.gc_policy.specs.Policy.{PolicyState, ExpandsTable, Expanded, CollectsTable, allocated_bytes}
+use Rattle.gc_model.specs.Policy.{PolicyState, ExpandsTable, Expanded, CollectsTable, allocated_bytes}
 
 -- a growth by so many bytes was granted or refused
 pub record ExpandsStore {D : Type 0} (layouts : Layouts) (bytes : ℕ) (p : PolicyState D) (limits' : Limits) (granted : Bool) (new : StoreView D) : Type 0 where

@@ -6,7 +6,7 @@ use Rattle.gc_heap.specs.declared.heap.GcHeap as heap
 use Rattle.gc_model.specs.Values.{at, host}
 use Rattle.gc_model.specs.Table.{Table, set_host}
 use Rattle.gc_model.specs.Stores.{StoreView, with_host_at}
-use Rattle.gc_policy.specs.Accounts.{Account, HoldsAccount}
+use Rattle.gc_model.specs.Accounts.{Account, HoldsAccount}
 use Rattle.gc_values.specs.declared.root.GcRootIndex.{GcRootIndex}
 use Rattle.gc_store.specs.declared.hosts.HostDataFault.{HostDataFault}
 use Rattle.gc_store.specs.declared.hosts.HostDataFault.TheVariants as fault

@@ -5,7 +5,7 @@ use Rattle.gc_model.specs.Values.{host}
 use Rattle.gc_model.specs.Live.{roots_full}
 use Rattle.gc_model.specs.Allocation.{Limits}
 use Rattle.gc_model.specs.Stores.{StoreView}
-use Rattle.gc_policy.specs.Policy.{PolicyState}
+use Rattle.gc_model.specs.Policy.{PolicyState}
 use Rattle.gc_store.specs.declared.hosts.PlaceHostFault.{PlaceHostFault}
 use Rattle.gc_store.specs.declared.hosts.PlaceHostFault.TheVariants as fault
 use Rattle.gc_values.specs.declared.root.GcRootIndex.{GcRootIndex}

@@ -14,7 +14,7 @@ use Rattle.gc_model.specs.Table.{Table}
 use Rattle.gc_model.specs.Reads.{host_value_of}
 use Rattle.gc_model.specs.Stores.{StoreView}
 use Rattle.gc_model.specs.Holds.{Placing, IsHostAt}
-use Rattle.gc_policy.specs.HostMaking.{MadeHost}
+use Rattle.gc_model.specs.HostMaking.{MadeHost}
 use Rattle.gc_store.specs.declared.hosts.PlaceHostFault.{PlaceHostFault}
 use Rattle.gc_store.specs.declared.hosts.PlaceHostFault.TheVariants as fault
 use Rattle.gc_values.specs.declared.root.RootFault.{RootFault}

@@ -8,7 +8,7 @@ use Rattle.gc_model.specs.Table.{Table}
 use Rattle.gc_model.specs.OwnedRoots.{own, owned_full}
 use Rattle.gc_model.specs.Stores.{StoreView}
 use Rattle.gc_model.specs.Holds.{Holds, Placing, IsWord}
-use Rattle.gc_policy.specs.Accounts.{Account, IsAccount, HoldsAccount}
+use Rattle.gc_model.specs.Accounts.{Account, IsAccount, HoldsAccount}
 use Rattle.gc_values.specs.declared.root.GcRootIndex.{GcRootIndex}
 use Rattle.gc_values.specs.declared.root.RootFault.{RootFault}
 use Rattle.gc_values.specs.declared.root.RootFault.TheVariants as fault

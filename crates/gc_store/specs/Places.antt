@@ -14,8 +14,8 @@ use Rattle.gc_values.specs.declared.root.GcRootIndex.{GcRootIndex}
 use Rattle.gc_values.specs.declared.faults.PlaceFault.{PlaceFault}
 use Rattle.gc_values.specs.declared.faults.PlaceFault.TheVariants as fault
 use Rattle.gc_store.specs.Roots.{handle_of}
-use Rattle.gc_policy.specs.Accounts.{HoldsAccount, with_held}
-use Rattle.gc_policy.specs.Policy.{PolicyState, IsPlaceIn, Prepares, Prepared}
+use Rattle.gc_model.specs.Accounts.{HoldsAccount, with_held}
+use Rattle.gc_model.specs.Policy.{PolicyState, IsPlaceIn, Prepares, Prepared}
 
 -- the bytes of an object of the table, as its heap lays it out
 abbrev pub size_in_table : {D : Type 0} → Layouts → Object D → Table D → ℕ

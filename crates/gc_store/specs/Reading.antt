@@ -8,7 +8,7 @@ use Rattle.gc_model.specs.Table.{Table}
 use Rattle.gc_model.specs.Stores.{StoreView}
 use Rattle.gc_model.specs.Forms.{naming}
 use Rattle.gc_model.specs.Holds.{Holds, Placing, IsWord}
-use Rattle.gc_policy.specs.Accounts.{Account, IsAccount}
+use Rattle.gc_model.specs.Accounts.{Account, IsAccount}
 use Rattle.gc_values.specs.declared.stored.Found.{Found}
 use Rattle.gc_values.specs.declared.root.GcRootIndex.{GcRootIndex}
 use Rattle.gc_values.specs.declared.root.RawValue.{RawValue}

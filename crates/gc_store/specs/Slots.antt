@@ -13,7 +13,7 @@ use Rattle.gc_values.specs.declared.root.RootFault.{RootFault}
 use Rattle.gc_values.specs.declared.root.RootFault.TheVariants as root_fault
 use Rattle.gc_store.specs.declared.globals.SlotFault.{SlotFault}
 use Rattle.gc_store.specs.declared.globals.SlotFault.TheVariants as slot_fault
-use Rattle.gc_policy.specs.Accounts.{Account, HoldsAccount}
+use Rattle.gc_model.specs.Accounts.{Account, HoldsAccount}
 use Rattle.gc_store.specs.Roots.{is_of_store, NamesReference, NamesNothing}
 use Rattle.gc_store.specs.Values.{ReadsValue}
 

@@ -10,9 +10,9 @@ use Rattle.gc_types.specs.Declarations.{Declaration, TypeName}
 use Rattle.gc_model.specs.Table.{Table, start, declare}
 use Rattle.gc_model.specs.SideValues.{InternedIds, no_ids}
 use Rattle.gc_model.specs.Stores.{StoreView, unset_globals, empty_store}
-use Rattle.gc_policy.specs.Accounts.{Account, no_account, HoldsAccount}
+use Rattle.gc_model.specs.Accounts.{Account, no_account, HoldsAccount}
 use Rattle.gc_owner.specs.Owners.{OwnerView}
-use Rattle.gc_policy.specs.Shown.{shown}
+use Rattle.gc_model.specs.Shown.{shown}
 use Rattle.gc_values.specs.declared.engine.StoreId.{StoreId}
 use Rattle.gc_values.specs.declared.config.HeapConfig.{HeapConfig}
 use Rattle.gc_values.specs.declared.interned.InternedValues.{InternedValues}

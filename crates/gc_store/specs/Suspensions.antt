@@ -5,7 +5,7 @@ use Rattle.gc_heap.specs.Collection.{Start}
 use Rattle.gc_owner.specs.RootColumns.{AreFrames}
 use Rattle.gc_owner.specs.Owners.{OwnerView, OwnerValue, Kind, Trims, IsOwnerUnderWay}
 use Rattle.gc_model.specs.Stores.{StoreView}
-use Rattle.gc_policy.specs.Shown.{shown}
+use Rattle.gc_model.specs.Shown.{shown}
 use Rattle.gc_values.specs.declared.engine.StoreId.{StoreId}
 use Rattle.gc_values.specs.declared.config.HeapConfig.{HeapConfig}
 use Rattle.gc_store.specs.Stores.{StoreTables, store_view, IsSoundStore}

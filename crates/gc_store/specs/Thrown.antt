@@ -11,7 +11,7 @@ use Rattle.gc_model.specs.Holds.{HoldsTable, IsException}
 use Rattle.gc_values.specs.declared.root.GcRootIndex.{GcRootIndex}
 use Rattle.gc_values.specs.declared.root.RootFault.{RootFault}
 use Rattle.gc_values.specs.declared.root.RootFault.TheVariants as fault
-use Rattle.gc_policy.specs.Accounts.{Account, HoldsAccount}
+use Rattle.gc_model.specs.Accounts.{Account, HoldsAccount}
 use Rattle.gc_store.specs.Roots.{handle_of, is_of_store, NamesReference, NamesNothing}
 
 -- what the handle names, where it is live, is an exception, in each table that the store holds

@@ -22,7 +22,7 @@ use Rattle.gc_values.specs.declared.root.RootFault.{RootFault}
 use Rattle.gc_values.specs.declared.root.RootFault.TheVariants as fault
 use Rattle.gc_values.specs.declared.faults.WriteFault.{WriteFault}
 use Rattle.gc_values.specs.declared.faults.WriteFault.TheVariants as write_fault
-use Rattle.gc_policy.specs.Accounts.{Account, HoldsAccount}
+use Rattle.gc_model.specs.Accounts.{Account, HoldsAccount}
 use Rattle.gc_store.specs.Roots.{NamesReference, HasValue, handle_of}
 
 -- the handle is live, and the value is what its root names

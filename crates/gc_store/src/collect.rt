@@ -4,7 +4,7 @@ ghost use Rattle.std.specs.Prelude.{ℕ, slice_get};
 ghost use Rattle.gc_model.specs.Table.{Table};
 ghost use Rattle.gc_model.specs.Reach.{HasNumber, IsKept, IsHost};
 ghost use Rattle.gc_model.specs.Holds.{HoldsKept};
-ghost use Rattle.gc_policy.specs.Collects.{HoldsNumber, HoldsHosts};
+ghost use Rattle.gc_model.specs.Collects.{HoldsNumber, HoldsHosts};
 ghost use Rattle.gc_store.specs.Collectings.{IsCollected};
 
 use crate::store::Store;

@@ -4,7 +4,7 @@ ghost use Rattle.std.specs.Prelude.{◌≡◌, ◌<◌, ◌≤◌, ◌↔◌, �
 ghost use Rattle.gc_model.specs.Values.{Reference};
 ghost use Rattle.gc_model.specs.Table.{Table, Slot};
 ghost use Rattle.gc_model.specs.Frames.{newest, push_frame, slot_at, set_slot};
-ghost use Rattle.gc_policy.specs.Accounts.{Account, HoldsAccount};
+ghost use Rattle.gc_model.specs.Accounts.{Account, HoldsAccount};
 ghost use Rattle.gc_store.specs.Slots.{SetsSlot, ReadsSlot, PopsFrame};
 ghost use Rattle.gc_store.specs.Stores.{IsSameStore, scoped_places};
 

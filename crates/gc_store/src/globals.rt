@@ -6,7 +6,7 @@ ghost use Rattle.gc_model.specs.Table.{Table, Slot, global_count};
 ghost use Rattle.gc_model.specs.Globals.{set_global, global_at};
 ghost use Rattle.gc_model.specs.Stores.{unset_globals};
 ghost use Rattle.gc_model.specs.Holds.{Holds, Placing};
-ghost use Rattle.gc_policy.specs.Accounts.{Account, HoldsAccount};
+ghost use Rattle.gc_model.specs.Accounts.{Account, HoldsAccount};
 ghost use Rattle.gc_store.specs.Slots.{told_of_slot, FindsWord, SetsSlot, ReadsSlot};
 ghost use Rattle.gc_store.specs.Stores.{IsSameStore, scoped_places};
 

@@ -5,9 +5,9 @@ ghost use Rattle.gc_view.specs.Pages.{page, max_pages};
 ghost use Rattle.gc_model.specs.Allocation.{Limits};
 ghost use Rattle.gc_model.specs.Table.{Table};
 ghost use Rattle.gc_model.specs.Holds.{HoldsTable};
-ghost use Rattle.gc_policy.specs.Accounts.{Account, HoldsAccount};
+ghost use Rattle.gc_model.specs.Accounts.{Account, HoldsAccount};
 ghost use Rattle.gc_store.specs.Expansion.{GrowsStore, CollectsFor, unused_bytes};
-ghost use Rattle.gc_policy.specs.Policy.{policy_state};
+ghost use Rattle.gc_model.specs.Policy.{policy_state};
 ghost use Rattle.gc_store.specs.Stores.{IsSameStore};
 
 use crate::store::Store;

@@ -1,7 +1,7 @@
 //! The law that each store holds a table.
 
 ghost use Rattle.gc_model.specs.Table.{Table};
-ghost use Rattle.gc_policy.specs.Accounts.{Account, HoldsAccount};
+ghost use Rattle.gc_model.specs.Accounts.{Account, HoldsAccount};
 
 use crate::store::Store;
 use gc_heap::GcHeap;

@@ -4,7 +4,7 @@ ghost use Rattle.std.specs.Prelude.{◌≡◌, ◌≤◌, ◌-◌, ◌<◌, ◌^
 ghost use Rattle.gc_model.specs.Values.{Reference};
 ghost use Rattle.gc_model.specs.Table.{Table};
 ghost use Rattle.gc_model.specs.Holds.{Holds, Placing, IsWord};
-ghost use Rattle.gc_policy.specs.Accounts.{Account, IsAccount, HoldsAccount};
+ghost use Rattle.gc_model.specs.Accounts.{Account, IsAccount, HoldsAccount};
 ghost use Rattle.gc_store.specs.Roots.{IsRootWord, is_of_store};
 ghost use Rattle.gc_values.specs.Words.{owned_id, AreOwnedRising};
 ghost use Rattle.gc_values.specs.declared.root.RootSlot.TheVariants as RootSlot;

@@ -4,7 +4,7 @@ ghost use Rattle.std.specs.Prelude.{◌≡◌, ◌≤◌, ◌<◌, ◌↔◌, Is
 ghost use Rattle.gc_model.specs.Table.{Table};
 ghost use Rattle.gc_model.specs.Pending.{take_pending};
 ghost use Rattle.gc_model.specs.Holds.{HoldsTable};
-ghost use Rattle.gc_policy.specs.Accounts.{Account, HoldsAccount};
+ghost use Rattle.gc_model.specs.Accounts.{Account, HoldsAccount};
 ghost use Rattle.gc_store.specs.Thrown.{NamesException, SetsPending, AnswersPending, TellsTag};
 ghost use Rattle.gc_store.specs.Stores.{IsSameStore, scoped_places};
 

@@ -7,7 +7,7 @@ ghost use Rattle.gc_model.specs.Reads.{same_reference, after_read};
 ghost use Rattle.gc_model.specs.Values.{Reference, Value, small, reference};
 ghost use Rattle.gc_model.specs.Forms.{naming};
 ghost use Rattle.gc_model.specs.Holds.{HoldsTable, Holds, Placing, IsWord};
-ghost use Rattle.gc_policy.specs.Accounts.{Account, IsAccount, HoldsAccount};
+ghost use Rattle.gc_model.specs.Accounts.{Account, IsAccount, HoldsAccount};
 ghost use Rattle.gc_store.specs.Roots.{word_of, IsRootWord, IsReference, NamesReference, NamesNothing, TellsReference, TellsWord, is_of_store, HasValue, CanRead};
 ghost use Rattle.gc_store.specs.Roots.{FindsRoot};
 ghost use Rattle.gc_store.specs.Handles.{PushesRoot};

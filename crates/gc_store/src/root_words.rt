@@ -6,7 +6,7 @@ ghost use Rattle.std.specs.Option.{option_map};
 ghost use Rattle.gc_owner.specs.declared.entry.SlotEntry.{SlotEntry};
 ghost use Rattle.gc_model.specs.Table.{Table};
 ghost use Rattle.gc_model.specs.Holds.{Holds, Placing};
-ghost use Rattle.gc_policy.specs.Accounts.{Account, IsAccount};
+ghost use Rattle.gc_model.specs.Accounts.{Account, IsAccount};
 ghost use Rattle.gc_store.specs.RootWords.{root_words, slot_words, slot_roots, owned_root_word, scoped_root_word, handle_root_words, RootsWord};
 ghost use Rattle.gc_store.specs.Staying.{OnlyAdds};
 ghost use Rattle.gc_store.specs.Stores.{IsSameStore, scoped_places};

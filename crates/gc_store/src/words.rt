@@ -6,7 +6,7 @@ ghost use Rattle.std.specs.Prelude.{◌≡◌, ◌↔◌, ◌≤◌, ◌<◌, fa
 ghost use Rattle.gc_model.specs.Values.{Reference};
 ghost use Rattle.gc_model.specs.Table.{Table};
 ghost use Rattle.gc_model.specs.Holds.{HoldsTable, Holds, Placing, IsWord};
-ghost use Rattle.gc_policy.specs.Accounts.{Account};
+ghost use Rattle.gc_model.specs.Accounts.{Account};
 ghost use Rattle.gc_store.specs.OwnedWords.{HoldsThere};
 ghost use Rattle.gc_store.specs.RawWords.{PushesWord, OwnsReference};
 ghost use Rattle.gc_store.specs.Reading.{IsReferenceWord};

@@ -24,7 +24,7 @@ use Rattle.gc_owner.specs.declared.entry.RootEntry.{RootEntry}
 use Rattle.gc_owner.specs.Owners.{OwnerView, CanBegin}
 use Rattle.gc_owner.specs.declared.entry.OwnedEntry.{OwnedEntry}
 use Rattle.gc_model.proofs.Members.{among_map}
-use Rattle.gc_policy.proofs.RootsShown.{IsRooted, scoped_rooted, owned_rooted}
+use Rattle.gc_model.proofs.RootsShown.{IsRooted, scoped_rooted, owned_rooted}
 use Rattle.gc_model.specs.Values.{Value}
 use Rattle.gc_model.specs.Forms.{Form, function_of, continuation_of, reference_of, top_form, storage_form, Names, InternedIds}
 use Rattle.gc_model.proofs.Lists.{slice_get-same_length}

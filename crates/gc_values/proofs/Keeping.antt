@@ -13,8 +13,8 @@ use Rattle.gc_owner.specs.Owners.{OwnerView, Trims, Collects, CollectsAll}
 use Rattle.gc_owner.specs.Growing.{OwnerState, GetsFirst, BeginsHeap, Readies, GrowsReadied, owner_rules}
 use Rattle.gc_owner.specs.Retry.{Retry, Paused, Growing}
 use Rattle.gc_values.proofs.OwnedKept.{KeepsOwned, owned-same, owned-then, owned-trimmed, owned-moved}
-use Rattle.gc_policy.specs.Shown.{DuesOwner, frames_of}
-use Rattle.gc_policy.proofs.Frames.{frames-mapped}
+use Rattle.gc_model.specs.Shown.{DuesOwner, frames_of}
+use Rattle.gc_model.proofs.Frames.{frames-mapped}
 use Rattle.gc_values.specs.Making.{BeginsMaking}
 use Rattle.gc_values.specs.SlotCounts.{slot_counts}
 

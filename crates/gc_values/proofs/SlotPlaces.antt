@@ -29,7 +29,7 @@ use Rattle.gc_owner.specs.Owners.{OwnerView, CanBegin}
 use Rattle.gc_owner.specs.Tracing.{IsTraced}
 use Rattle.gc_owner.specs.Writes.{IsNumberPlace, IsReferencePlace}
 use Rattle.gc_model.proofs.ObjectShapes.{element_is}
-use Rattle.gc_policy.proofs.CollectedOffsets.{shape_offsets, RefSlot, ref_slot, slot_followed}
+use Rattle.gc_model.proofs.CollectedOffsets.{shape_offsets, RefSlot, ref_slot, slot_followed}
 use Rattle.gc_values.specs.HeldSlots.{HasHeapShape, IsHeldOf}
 use Rattle.gc_values.proofs.ShapeSlots.{laid_out}
 

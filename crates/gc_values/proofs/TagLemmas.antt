@@ -24,7 +24,7 @@ use Rattle.gc_heap.specs.References.{typed_offsets}
 use Rattle.gc_memory.proofs.ListLemmas.{contains_in}
 use Rattle.gc_owner.specs.Owners.{OwnerView, CanBegin}
 use Rattle.gc_owner.specs.Writes.{IsNumberPlace, WritesBytes}
-use Rattle.gc_policy.proofs.CollectedOffsets.{ref_slot}
+use Rattle.gc_model.proofs.CollectedOffsets.{ref_slot}
 use Rattle.gc_model.specs.Forms.{InternedIds}
 use Rattle.gc_values.specs.Words.{handle_roots, AreOwnedRising}
 use Rattle.gc_values.specs.declared.root.RawValue.{RawValue}

@@ -13,7 +13,7 @@ use Rattle.gc_owner.specs.declared.allocate.Description.TheVariants as of
 use Rattle.gc_owner.specs.Growing.{OwnerState, BeginsHeap, NotBegun, owner_rules}
 use Rattle.gc_owner.specs.Makes.{AllocatesRooted, LacksSpace}
 use Rattle.gc_owner.specs.Retry.{Paused}
-use Rattle.gc_policy.specs.Shown.{DuesOwner}
+use Rattle.gc_model.specs.Shown.{DuesOwner}
 use Rattle.gc_values.specs.declared.request.Place.{Place}
 use Rattle.gc_values.specs.declared.request.Place.TheVariants as place
 use Rattle.gc_values.specs.declared.faults.PlaceFault.{PlaceFault}

@@ -6,7 +6,7 @@ ghost use Rattle.gc_view.specs.Heaps.{HeapObject};
 ghost use Rattle.gc_view.specs.Pages.{max_pages};
 ghost use Rattle.gc_owner.specs.Growing.{state_of};
 ghost use Rattle.gc_owner.specs.Makes.{CanMakeDescribed, Describes};
-ghost use Rattle.gc_policy.specs.Shown.{DuesOwner};
+ghost use Rattle.gc_model.specs.Shown.{DuesOwner};
 ghost use Rattle.gc_model.specs.Allocation.{Limits};
 ghost use Rattle.gc_values.specs.Making.{AllocatesObject, IsDescribedBy, IsOfTypes, IsSizeBy, MakesRooted, TellsSize};
 

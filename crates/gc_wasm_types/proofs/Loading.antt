@@ -9,8 +9,8 @@ use Rattle.gc_model.specs.OwnedRoots.{own}
 use Rattle.gc_model.specs.Stores.{StoreView}
 use Rattle.gc_model.specs.Table.{Table}
 use Rattle.gc_model.specs.Values.{Reference}
-use Rattle.gc_policy.specs.Accounts.{Account}
-use Rattle.gc_policy.proofs.AccountLemmas.{own_account}
+use Rattle.gc_model.specs.Accounts.{Account}
+use Rattle.gc_model.proofs.AccountLemmas.{own_account}
 use Rattle.gc_values.specs.declared.root.GcRootIndex.{GcRootIndex}
 use Rattle.gc_rooted.specs.declared.owned_rooted.OwnedRooted.{OwnedRooted}
 use Rattle.gc_values.specs.declared.root.RootFault.{RootFault}

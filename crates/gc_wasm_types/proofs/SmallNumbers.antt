@@ -8,7 +8,7 @@ use Rattle.gc_model.specs.Stores.{StoreView}
 use Rattle.gc_model.specs.Table.{Table}
 use Rattle.gc_model.specs.Values.{Reference, null, small}
 use Rattle.gc_model.proofs.Words.{word_names}
-use Rattle.gc_policy.specs.Accounts.{Account}
+use Rattle.gc_model.specs.Accounts.{Account}
 use Rattle.gc_store.specs.OwnedWords.{HoldsThere}
 use Rattle.gc_wasm_types.specs.Loads.{CanLoad, LoadsValue, ValueIsOf}
 use Rattle.gc_wasm_types.specs.Values.{number, or_absent, numbers, by_number}

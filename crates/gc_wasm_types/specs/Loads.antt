@@ -6,7 +6,7 @@ use Rattle.gc_model.specs.Values.{Reference, null, small}
 use Rattle.gc_model.specs.Table.{Table}
 use Rattle.gc_model.specs.Stores.{StoreView}
 use Rattle.gc_model.specs.Holds.{Placing, Holds, IsWord}
-use Rattle.gc_policy.specs.Accounts.{Account}
+use Rattle.gc_model.specs.Accounts.{Account}
 use Rattle.gc_values.specs.declared.root.RootFault.{RootFault}
 use Rattle.gc_values.specs.declared.root.RootFault.TheVariants as fault
 use Rattle.gc_rooted.specs.declared.owned_rooted.OwnedRooted.{OwnedRooted}

@@ -20,7 +20,7 @@ pub trait WasmHandle {
     ghost use Rattle.gc_model.specs.Holds.{Placing, IsWord};
     ghost use Rattle.gc_model.specs.Table.{Table};
     ghost use Rattle.gc_model.specs.Values.{Reference};
-    ghost use Rattle.gc_policy.specs.Accounts.{Account};
+    ghost use Rattle.gc_model.specs.Accounts.{Account};
     ghost use Rattle.gc_values.specs.declared.root.GcRootIndex.{GcRootIndex};
     ghost use Rattle.gc_store.specs.OwnedWords.{HoldsThere};
     ghost use Rattle.gc_store.specs.RawWords.{IsRawWord};

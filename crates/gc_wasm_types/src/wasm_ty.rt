@@ -13,7 +13,7 @@ pub trait WasmTy {
     ghost use Rattle.gc_model.specs.Holds.{HoldsTable, Holds, Placing, IsWord};
     ghost use Rattle.gc_model.specs.Table.{Table};
     ghost use Rattle.gc_model.specs.Values.{Reference};
-    ghost use Rattle.gc_policy.specs.Accounts.{Account};
+    ghost use Rattle.gc_model.specs.Accounts.{Account};
     ghost use Rattle.gc_store.specs.OwnedWords.{HoldsThere};
     ghost use Rattle.gc_store.specs.Stores.{IsSameStore};
     ghost use Rattle.gc_wasm_types.specs.Loads.{CanLoad, LoadsValue, RefusesLoad, ValueIsOf, KeepsRoom, WantsNoMemory};

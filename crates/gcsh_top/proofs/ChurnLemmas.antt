@@ -5,7 +5,7 @@ use Rattle.gc_types.specs.declared.kind.Layouts.{Layouts}
 use Rattle.gc_model.specs.Allocation.{Limits}
 use Rattle.gc_model.specs.Holds.{HoldsKept}
 use Rattle.gc_model.specs.Stores.{StoreView}
-use Rattle.gc_policy.specs.Accounts.{no_account}
+use Rattle.gc_model.specs.Accounts.{no_account}
 use Rattle.gc_owner.specs.Limiters.{fresh_limits}
 use Rattle.gc_store.specs.Stores.{IsSameStore}
 use Rattle.gc_commands.specs.declared.command.Command.{Command}
@@ -21,7 +21,7 @@ use Rattle.gc_script.proofs.KeptLemmas.{kept_after, last_command, no_last}
 use Rattle.gcsh_top.specs.declared.churn_run.Churner.{Churner}
 use Rattle.gcsh_top.specs.declared.words.Form.{Form}
 use Rattle.gcsh_top.specs.Churn.{churn_script, link_fields, round_commands, rounds_up_to}
-use Rattle.gcsh_seeds.specs.Seeds.{seed_of}
+use Rattle.gcsh_reports.specs.Seeds.{seed_of}
 use Rattle.gcsh_top.specs.ChurnRuns.{HasRun, RanChurn, RunFrom, StoppedIn, refusals_in, summary_text}
 use Rattle.gcsh_top.specs.Runs.{HoldsFirstTable, first_table}
 use Rattle.gcsh_top.proofs.FormRun.{ready_state}

@@ -5,7 +5,7 @@ use Rattle.gc_types.specs.declared.kind.Layouts.{Layouts}
 use Rattle.gc_model.specs.Stores.{StoreView}
 use Rattle.gcsh_top.specs.declared.status.Status.{Status}
 use Rattle.gcsh_top.specs.declared.status.Status.TheVariants.{Done, Usage, ReadFault, WriteFault, TooLong, NoMemory}
-use Rattle.gcsh_lists.specs.Filling.{max_inserts}
+use Rattle.gcsh_reports.specs.Filling.{max_inserts}
 use Rattle.gcsh_top.specs.declared.stores.Stores.{Stores}
 use Rattle.gcsh_top.specs.declared.words.Collector.{Collector}
 use Rattle.gcsh_top.specs.declared.words.Form.{Form}

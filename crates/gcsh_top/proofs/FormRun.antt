@@ -5,7 +5,7 @@ use Rattle.gc_model.specs.Table.{start, usual_roots}
 use Rattle.gc_model.specs.Stores.{StoreView}
 use Rattle.gc_model.specs.Allocation.{Limits}
 use Rattle.gc_values.specs.declared.config.HeapConfig.{HeapConfig}
-use Rattle.gc_policy.specs.Accounts.{HoldsAccount, no_account}
+use Rattle.gc_model.specs.Accounts.{HoldsAccount, no_account}
 use Rattle.gc_owner.specs.Limiters.{fresh_limits}
 use Rattle.gc_store.specs.Stores.{HoldsStart}
 use Rattle.gc_script.specs.Slots.{RunnerView, new_runner}

@@ -4,8 +4,8 @@ use Rattle.gc_types.specs.declared.kind.Layouts.{Layouts}
 use Rattle.gc_model.specs.Allocation.{Limits}
 use Rattle.gc_model.specs.Stores.{StoreView}
 use Rattle.gc_owner.specs.Limiters.{fresh_limits}
-use Rattle.gcsh_lists.specs.Filling.{HoldsWithin}
-use Rattle.gcsh_lists.specs.Reports.{TellsFill}
+use Rattle.gcsh_reports.specs.Filling.{HoldsWithin}
+use Rattle.gcsh_reports.specs.FillReports.{TellsFill}
 use Rattle.gcsh_top.specs.declared.words.Form.{Form}
 use Rattle.gcsh_top.specs.ListReports.{TellsLists}
 use Rattle.gcsh_top.specs.Runs.{HoldsFirstTable}

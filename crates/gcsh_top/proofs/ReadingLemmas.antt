@@ -8,7 +8,7 @@ use Rattle.gc_model.specs.Stores.{StoreView}
 use Rattle.gc_script.specs.Slots.{RunnerView, new_runner}
 use Rattle.gc_script.specs.State.{State, HoldsState, begin}
 use Rattle.gc_script.proofs.StandLemmas.{same_twice}
-use Rattle.gc_policy.specs.Accounts.{no_account}
+use Rattle.gc_model.specs.Accounts.{no_account}
 use Rattle.gc_owner.specs.Limiters.{fresh_limits}
 use Rattle.gc_store.specs.Stores.{IsSameStore}
 use Rattle.gcsh_top.specs.declared.read.ReadFault.{ReadFault as read_fault}

@@ -9,7 +9,7 @@ use Rattle.gc_commands.specs.declared.reply.Reply.{Reply}
 use Rattle.gcsh_top.specs.declared.churn_run.Churner.{Churner}
 use Rattle.gcsh_top.specs.declared.words.Form.{Form}
 use Rattle.gcsh_top.specs.Churn.{named_by, round_commands, rounds_up_to, slot_read, slot_set}
-use Rattle.gcsh_seeds.specs.Seeds.{next_seed, seed_of}
+use Rattle.gcsh_reports.specs.Seeds.{next_seed, seed_of}
 use Rattle.gcsh_top.specs.ChurnRuns.{HasRun, StoppedIn}
 use Rattle.gcsh_top.proofs.ChurnLemmas.{five_behind, four_behind, front_of, rounds_front, rounds_more, seed_more, stopped_within, three_behind, two_behind}
 

@@ -10,7 +10,7 @@ use Rattle.gc_commands.specs.declared.command.Operand.TheVariants as operand
 use Rattle.gc_commands.specs.declared.command.StorageWord.TheVariants as storage
 use Rattle.gc_commands.specs.declared.command.ValueWord.{ValueWord}
 use Rattle.gc_commands.specs.declared.command.ValueWord.TheVariants as value
-use Rattle.gcsh_seeds.specs.Seeds.{seed_of}
+use Rattle.gcsh_reports.specs.Seeds.{seed_of}
 
 -- a script may have this many rounds
 abbrev pub max_rounds : ℕ

@@ -3,9 +3,9 @@ use Rattle.std.specs.Prelude.{ℕ, List}
 use Rattle.gc_types.specs.declared.kind.Layouts.{Layouts}
 use Rattle.gc_model.specs.Stores.{StoreView}
 use Rattle.gc_model.specs.Table.{Table}
-use Rattle.gc_policy.specs.Accounts.{Account, HoldsAccount}
-use Rattle.gc_image_collect.specs.Answers.{DropsImageRoots}
-use Rattle.gcsh_images.specs.Saving.{TellsSave}
+use Rattle.gc_model.specs.Accounts.{Account, HoldsAccount}
+use Rattle.gc_save_image.specs.Answers.{DropsImageRoots}
+use Rattle.gcsh_reports.specs.Saving.{TellsSave}
 use Rattle.gcsh_top.specs.declared.status.Status.{Status}
 use Rattle.gcsh_top.specs.Ends.{SinkRun}
 use Rattle.gcsh_top.specs.Reports.{ReportedText}

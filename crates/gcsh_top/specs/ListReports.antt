@@ -3,8 +3,8 @@ use Rattle.std.specs.Prelude.{ℕ, List, Some}
 use Rattle.gc_types.specs.declared.kind.Layouts.{Layouts}
 use Rattle.gc_model.specs.Stores.{StoreView}
 use Rattle.gc_owner.specs.Limiters.{fresh_limits}
-use Rattle.gcsh_lists.specs.Filling.{HoldsWithin}
-use Rattle.gcsh_lists.specs.Reports.{TellsFill}
+use Rattle.gcsh_reports.specs.Filling.{HoldsWithin}
+use Rattle.gcsh_reports.specs.FillReports.{TellsFill}
 use Rattle.gcsh_top.specs.declared.status.Status.{Status}
 use Rattle.gcsh_top.specs.declared.words.Form.{Form}
 use Rattle.gcsh_top.specs.Ends.{SinkRun}

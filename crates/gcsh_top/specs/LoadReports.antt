@@ -5,7 +5,7 @@ use Rattle.gc_model.specs.Allocation.{Limits}
 use Rattle.gc_model.specs.Stores.{StoreView}
 use Rattle.gc_model.specs.Table.{usual_roots}
 use Rattle.gc_owner.specs.Limiters.{fresh_limits}
-use Rattle.gcsh_images.specs.Loading.{LeavesLoad, TellsLoad}
+use Rattle.gcsh_reports.specs.Loading.{LeavesLoad, TellsLoad}
 use Rattle.gcsh_top.specs.declared.status.Status.{Status}
 use Rattle.gcsh_top.specs.declared.words.Form.{Form}
 use Rattle.gcsh_top.specs.Ends.{SinkRun, SourceRun}

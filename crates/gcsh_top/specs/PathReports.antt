@@ -5,9 +5,9 @@ use Rattle.gc_model.specs.Stores.{StoreView}
 use Rattle.gc_model.specs.Table.{Table}
 use Rattle.gc_model.specs.Words.{Placing}
 use Rattle.gc_paths.specs.Answers.{IsFull, OnlyPushed}
-use Rattle.gc_policy.specs.Accounts.{Account}
+use Rattle.gc_model.specs.Accounts.{Account}
 use Rattle.gc_store.specs.OwnedWords.{HoldsThere}
-use Rattle.gcsh_paths.specs.Answers.{IsReportText}
+use Rattle.gcsh_reports.specs.PathAnswers.{IsReportText}
 use Rattle.gcsh_top.specs.declared.status.Status.{Status}
 use Rattle.gcsh_top.specs.Ends.{SinkRun}
 use Rattle.gcsh_top.specs.Reports.{ReportedText}

@@ -12,7 +12,7 @@ use Rattle.gc_commands.specs.Spelling.{IsCommandOf}
 use Rattle.gc_script.specs.Slots.{RunnerView}
 use Rattle.gc_script.specs.State.{State, HoldsState, begin}
 use Rattle.gc_script.specs.Shapes.{is_collection}
-use Rattle.gc_policy.specs.Accounts.{HoldsAccount, no_account}
+use Rattle.gc_model.specs.Accounts.{HoldsAccount, no_account}
 use Rattle.gc_owner.specs.Limiters.{fresh_limits}
 use Rattle.gc_script.specs.Run.{Ran, WantsMemory}
 use Rattle.gc_script.specs.Session.{Session, SessionFrom, reply_line}

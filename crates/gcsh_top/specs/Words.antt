@@ -9,7 +9,7 @@ use Rattle.gcsh_top.specs.declared.words.Collector.TheVariants.{Copying, Countin
 use Rattle.gcsh_top.specs.declared.words.Form.{Form}
 use Rattle.gcsh_top.specs.declared.words.Task.{Task}
 use Rattle.gcsh_top.specs.declared.words.Task.TheVariants.{Script, Churn, Paths, Save, Load, Lists}
-use Rattle.gcsh_lists.specs.Filling.{max_inserts}
+use Rattle.gcsh_reports.specs.Filling.{max_inserts}
 use Rattle.gcsh_top.specs.Churn.{max_rounds}
 
 -- the word of a collector

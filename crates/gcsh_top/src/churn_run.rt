@@ -22,7 +22,7 @@ use crate::words::Form;
 use gc_heap::GcHeap;
 use gc_script::{Command, Operands, Reply, RunError, Runner, keep_operands, push_reply};
 use gc_store::{PageLimit, Store};
-use gcsh_seeds::next_seed;
+use gcsh_reports::next_seed;
 use std::alloc::{AllocError, Global};
 
 /// Runs the commands of a script on a store, and counts those that are refused.

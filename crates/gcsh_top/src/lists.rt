@@ -1,7 +1,7 @@
 //! The form that fills a map of heap objects.
 
 ghost use Rattle.std.specs.Prelude.{◌≤◌};
-ghost use Rattle.gcsh_lists.specs.Filling.{max_inserts};
+ghost use Rattle.gcsh_reports.specs.Filling.{max_inserts};
 ghost use Rattle.gcsh_top.specs.Chosen.{HasSameId};
 ghost use Rattle.gcsh_top.specs.ListReports.{ReportedLists};
 ghost use Rattle.gcsh_top.specs.Runs.{HoldsFirstTable};
@@ -12,7 +12,7 @@ use crate::status::Status;
 use crate::words::Form;
 use gc_heap::GcHeap;
 use gc_store::{PageLimit, Store};
-use gcsh_lists::fill_report;
+use gcsh_reports::fill_report;
 use std::alloc::Global;
 
 /// Makes so many inserts into a map in a new store, collects, and writes what became of them.

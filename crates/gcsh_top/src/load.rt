@@ -15,7 +15,7 @@ use crate::top::PIECE;
 use crate::words::Form;
 use gc_heap::GcHeap;
 use gc_store::{PageLimit, Store};
-use gcsh_images::load_report;
+use gcsh_reports::load_report;
 use std::alloc::Global;
 
 /// Loads the image that is the input into a new store, collects, and writes what the heap holds then.

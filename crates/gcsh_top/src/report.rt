@@ -17,8 +17,7 @@ use crate::write::write_all;
 use gc_heap::GcHeap;
 use gc_paths::PathFault;
 use gc_store::Store;
-use gcsh_images::save_report;
-use gcsh_paths::path_report;
+use gcsh_reports::{path_report, save_report};
 use std::alloc::Global;
 
 /// Runs the script that is the input without replies, and writes the report of the paths to what the roots

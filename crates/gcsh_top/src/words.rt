@@ -7,7 +7,7 @@ ghost use Rattle.gcsh_top.specs.Words.{FitsTask, IsForm, collector_word, task_wo
 
 use crate::churn::MAX_ROUNDS;
 use gc_commands::number;
-use gcsh_lists::MAX_INSERTS;
+use gcsh_reports::MAX_INSERTS;
 
 /// The greatest number of pages of a heap.
 pub const MAX_PAGES: u64 = 65_535;

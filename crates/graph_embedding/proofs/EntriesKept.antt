@@ -15,8 +15,8 @@ use Rattle.gc_model.specs.Holds.{HoldsTable}
 use Rattle.gc_model.proofs.Changes.{slice_get-change_at_same, slice_get-change_at_other, slice_get-set_other}
 use Rattle.gc_model.proofs.Lists.{slice_get-push_old}
 use Rattle.gc_model.proofs.OwnedRoots.{owned_found, owned_one}
-use Rattle.gc_policy.specs.Accounts.{Account, HoldsAccount}
-use Rattle.gc_policy.proofs.AccountLemmas.{some_account}
+use Rattle.gc_model.specs.Accounts.{Account, HoldsAccount}
+use Rattle.gc_model.proofs.AccountLemmas.{some_account}
 use Rattle.gc_values.specs.declared.root.GcRootIndex.{GcRootIndex}
 use Rattle.gc_values.specs.declared.root.RootSlot.TheVariants as slot
 use Rattle.gc_store.specs.Roots.{NamesOwned, NamesReference, owned_handle}

@@ -3,7 +3,7 @@ use Rattle.gc_values.specs.declared.root.GcRootIndex.{GcRootIndex}
 use Rattle.gc_lists.specs.declared.fault.ListFault.{ListFault}
 use Rattle.gc_lists.specs.Progress.{NamesCell, Steps, ReadsCell}
 use Rattle.gc_model.specs.Table.{Table}
-use Rattle.gc_policy.specs.Accounts.{Account, HoldsAccount}
+use Rattle.gc_model.specs.Accounts.{Account, HoldsAccount}
 use Rattle.gc_lists.proofs.CellReads.{back}
 use Rattle.gc_lists.proofs.walk.walk.Goals as goal
 use Rattle.gc_lists.proofs.Walking.{Going, number_fits, going_begun, going_on, cell_somewhere, stops_full, stops_step, walked_all, given_up}

@@ -1,6 +1,6 @@
 use Rattle.std.proofs.Common.{◌≡◌, ℕ, replicate}
 use Rattle.gc_model.specs.Table.{Table, null_slot, global_count}
-use Rattle.gc_policy.specs.Accounts.{Account, HoldsAccount}
+use Rattle.gc_model.specs.Accounts.{Account, HoldsAccount}
 use Rattle.gc_store.specs.Stores.{IsSameStore}
 use Rattle.gc_load_image.specs.Stages.{GlobalsSet, HeldStand}
 use Rattle.gc_load_image.proofs.globals.set_globals.Given as goal

@@ -2,7 +2,7 @@ use Rattle.std.proofs.Common.{◌≡◌, ℕ, List, [], Result, Err, length, sym
 use Rattle.gc_types.specs.Declarations.{Declaration}
 use Rattle.gc_commands.specs.declared.command.Command.{Command}
 use Rattle.gc_model.specs.Table.{start}
-use Rattle.gc_policy.specs.Accounts.{HoldsAccount, no_account}
+use Rattle.gc_model.specs.Accounts.{HoldsAccount, no_account}
 use Rattle.gc_image.specs.declared.image.GlobalLine.{GlobalLine}
 use Rattle.gc_image.specs.declared.image.ObjectLine.{ObjectLine}
 use Rattle.gc_image.specs.Declaring.{DeclareInTurn}

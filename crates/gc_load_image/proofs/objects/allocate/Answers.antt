@@ -1,6 +1,6 @@
 use Rattle.std.proofs.Common.{inl, inr}
 use Rattle.gc_values.specs.declared.faults.PlaceFault.TheVariants as fault
-use Rattle.gc_policy.specs.Policy.{policy_state}
+use Rattle.gc_model.specs.Policy.{policy_state}
 use Rattle.gc_load_image.proofs.PlaceLemmas.{told_place}
 use Rattle.gc_load_image.proofs.objects.allocate.Goals as goal
 

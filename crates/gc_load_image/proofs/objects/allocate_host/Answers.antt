@@ -1,7 +1,7 @@
 use Rattle.std.proofs.Common.{ℕ, inl, sym, ap, subst}
 use Rattle.gc_model.specs.Values.{host}
 use Rattle.gc_store.specs.declared.hosts.PlaceHostFault.TheVariants as fault
-use Rattle.gc_policy.specs.Policy.{policy_state}
+use Rattle.gc_model.specs.Policy.{policy_state}
 use Rattle.gc_store.specs.Places.{LacksPlace}
 use Rattle.gc_load_image.proofs.PlaceLemmas.{told_host}
 use Rattle.gc_load_image.proofs.objects.allocate_host.Goals as goal

@@ -1,7 +1,7 @@
 use Rattle.std.proofs.Common.{ℕ, Some, take, ◌≡◌}
 use Rattle.std.specs.List.{slice_get}
 use Rattle.gc_model.specs.Table.{Table}
-use Rattle.gc_policy.specs.Accounts.{Account}
+use Rattle.gc_model.specs.Accounts.{Account}
 use Rattle.gc_store.specs.Stores.{IsSameStore}
 use Rattle.gc_image.specs.declared.image.ImageValue.{ImageValue}
 use Rattle.gc_image.specs.Text.{FitsImageValue}

@@ -1,5 +1,5 @@
 use Rattle.std.proofs.Common.{◌≡◌, ◌+◌, ◌-◌, ℕ, subst, arith}
-use Rattle.gc_policy.proofs.AccountLemmas.{some_account}
+use Rattle.gc_model.proofs.AccountLemmas.{some_account}
 use Rattle.gc_maps.specs.Copies.{RootWithin}
 use Rattle.gc_maps.proofs.Growing.{same_then}
 use Rattle.gc_maps.proofs.Naming.{held_table}

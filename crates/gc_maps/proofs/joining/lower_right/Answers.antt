@@ -1,5 +1,5 @@
 use Rattle.std.proofs.Common.{refl}
-use Rattle.gc_policy.proofs.AccountLemmas.{some_account}
+use Rattle.gc_model.proofs.AccountLemmas.{some_account}
 use Rattle.gc_maps.specs.Lowering.{IsJoined}
 use Rattle.gc_maps.proofs.LoweringRight.{high_in, high_refused, over_in, over_joined, turn_in, turn_joined}
 use Rattle.gc_maps.proofs.joining.lower_right.Goals as goal

@@ -1,5 +1,5 @@
 use Rattle.std.proofs.Common.{arith}
-use Rattle.gc_policy.proofs.AccountLemmas.{some_account}
+use Rattle.gc_model.proofs.AccountLemmas.{some_account}
 use Rattle.gc_maps.specs.Parts.{PartIs, node_of}
 use Rattle.gc_maps.proofs.Steps.{first_refused, can_over_right, made_over_right}
 use Rattle.gc_maps.proofs.joining.make_over_right.Goals as goal

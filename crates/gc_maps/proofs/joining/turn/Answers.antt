@@ -1,5 +1,5 @@
 use Rattle.std.proofs.Common.{refl}
-use Rattle.gc_policy.proofs.AccountLemmas.{some_account}
+use Rattle.gc_model.proofs.AccountLemmas.{some_account}
 use Rattle.gc_maps.specs.Parts.{PartIs, node_of}
 use Rattle.gc_maps.proofs.Growing.{grows_none}
 use Rattle.gc_maps.proofs.Turning.{middle_in, turn_refused, can_turn, turned}

@@ -10,9 +10,9 @@ use Rattle.gc_values.specs.declared.root.RawValue.{RawValue}
 use Rattle.gc_values.specs.declared.faults.PlaceFault.{PlaceFault}
 use Rattle.gc_values.specs.declared.faults.PlaceFault.TheVariants as place_fault
 use Rattle.gc_maps.proofs.NodeMaking.{Placed, node_values, can_place, part_low, asked, the_object, is_of_kit, place_made, place_full, place_wants, place_lacks, refused_place}
-use Rattle.gc_policy.proofs.AccountLemmas.{some_account}
-use Rattle.gc_policy.specs.Accounts.{Account, HoldsAccount}
-use Rattle.gc_policy.specs.Policy.{policy_state}
+use Rattle.gc_model.proofs.AccountLemmas.{some_account}
+use Rattle.gc_model.specs.Accounts.{Account, HoldsAccount}
+use Rattle.gc_model.specs.Policy.{policy_state}
 use Rattle.gc_maps.specs.Parts.{PartIs}
 use Rattle.gc_maps.specs.Trees.{Tree}
 use Rattle.gc_lists.proofs.Limiting.{Tells, places_tell}

@@ -1,5 +1,5 @@
 use Rattle.std.proofs.Common.{refl, arith}
-use Rattle.gc_policy.proofs.AccountLemmas.{some_account}
+use Rattle.gc_model.proofs.AccountLemmas.{some_account}
 use Rattle.gc_maps.specs.Parts.{PartIs, node_of}
 use Rattle.gc_maps.proofs.Steps.{can2, can3, refused1, refused2, three}
 use Rattle.gc_maps.proofs.making.make_three.Goals as goal

@@ -1,6 +1,6 @@
 use Rattle.std.proofs.Common.{ℕ, Result, Ok, Err, subst}
 use Rattle.gc_model.specs.Table.{leave}
-use Rattle.gc_policy.specs.Accounts.{HoldsAccount}
+use Rattle.gc_model.specs.Accounts.{HoldsAccount}
 use Rattle.gc_lists.specs.Answers.{KeepsRoot}
 use Rattle.gc_lists.specs.declared.fault.ListFault.{ListFault}
 use Rattle.gc_maps.specs.declared.part.Part.{Part}

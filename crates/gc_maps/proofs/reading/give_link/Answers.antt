@@ -1,7 +1,7 @@
 use Rattle.std.proofs.Common.{Option, sym, Ok, Err, subst}
 use Rattle.gc_owner.specs.declared.entry.GcClass.TheVariants.{Any}
 use Rattle.gc_model.specs.Values.{reference}
-use Rattle.gc_policy.proofs.AccountLemmas.{own_account}
+use Rattle.gc_model.proofs.AccountLemmas.{own_account}
 use Rattle.gc_values.specs.declared.root.GcRootIndex.{GcRootIndex}
 use Rattle.gc_lists.specs.declared.fault.ListFault.{ListFault}
 use Rattle.gc_maps.specs.Ends.{EndsReading}

@@ -1,4 +1,4 @@
-use Rattle.gc_policy.proofs.AccountLemmas.{some_account}
+use Rattle.gc_model.proofs.AccountLemmas.{some_account}
 use Rattle.gc_maps.specs.Parts.{NodeIs, OpenedIs}
 use Rattle.gc_maps.proofs.Opening.{refused_same, left_in, right_in, opened}
 use Rattle.gc_maps.proofs.NodeReads.{part_reads, same_here}

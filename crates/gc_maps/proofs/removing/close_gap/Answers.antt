@@ -1,4 +1,4 @@
-use Rattle.gc_policy.proofs.AccountLemmas.{some_account}
+use Rattle.gc_model.proofs.AccountLemmas.{some_account}
 use Rattle.gc_maps.proofs.GapLemmas.{left_closes, left_in, right_closes, right_in}
 use Rattle.gc_maps.proofs.TakingOut.{closes_passed, gap_passed}
 use Rattle.gc_maps.proofs.NodeReads.{part_reads, same_here}

@@ -1,7 +1,7 @@
 use Rattle.std.specs.Result.{is_ok, is_err}
 use Rattle.std.proofs.Common.{false, if◌then◌else◌, Result, Ok, Err, ◌≡◌, ◌++◌, ◌∷◌, [], List, ℤ, ap, ◌∙◌, sym, subst, w64}
 use Rattle.std.proofs.lemmas.Int.{to_z-of_z}
-use Rattle.gc_policy.proofs.AccountLemmas.{some_account}
+use Rattle.gc_model.proofs.AccountLemmas.{some_account}
 use Rattle.gc_maps.specs.declared.part.Frame.{Frame}
 use Rattle.gc_maps.specs.Gaps.{AboveIn, Closes, others}
 use Rattle.gc_maps.specs.Trees.{pairs}

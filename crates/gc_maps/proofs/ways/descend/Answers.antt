@@ -2,7 +2,7 @@ use Rattle.std.specs.Result.{is_ok, is_err}
 use Rattle.std.proofs.Common.{false, if◌then◌else◌, Result, Ok, Err, ◌≡◌, ◌+◌, ◌<◌, ◌++◌, ◌∷◌, [], ℕ, ℤ, List, ap, ◌∙◌, sym, subst, refl, arith, w64}
 use Rattle.std.specs.Ordering.{int_cmp}
 use Rattle.std.proofs.lemmas.Int.{to_z-of_z}
-use Rattle.gc_policy.proofs.AccountLemmas.{some_account}
+use Rattle.gc_model.proofs.AccountLemmas.{some_account}
 use Rattle.gc_store.specs.Reading.{IsFoundHere}
 use Rattle.gc_maps.specs.declared.part.Frame.{Frame}
 use Rattle.gc_maps.specs.FoundNodes.{link_found}

@@ -1,4 +1,4 @@
-use Rattle.gc_policy.proofs.AccountLemmas.{some_account}
+use Rattle.gc_model.proofs.AccountLemmas.{some_account}
 use Rattle.gc_maps.proofs.Putting.{second_in, can_between, between_made}
 use Rattle.gc_maps.proofs.NodeReads.{part_reads, same_here}
 use Rattle.gc_maps.proofs.ways.make_between.Goals as goal

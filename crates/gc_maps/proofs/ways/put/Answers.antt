@@ -3,8 +3,8 @@ use Rattle.std.specs.Ordering.{int_cmp}
 use Rattle.std.specs.FinMap.Entries.{put}
 use Rattle.std.proofs.lemmas.Int.{to_z-of_z}
 use Rattle.gc_model.specs.Table.{Table}
-use Rattle.gc_policy.specs.Accounts.{Account, HoldsAccount}
-use Rattle.gc_policy.proofs.AccountLemmas.{some_account}
+use Rattle.gc_model.specs.Accounts.{Account, HoldsAccount}
+use Rattle.gc_model.proofs.AccountLemmas.{some_account}
 use Rattle.gc_lists.specs.Frames.{Leaves}
 use Rattle.gc_maps.specs.declared.part.Node.{Node}
 use Rattle.gc_maps.specs.Ends.{Pushes}

@@ -1,6 +1,6 @@
 use Rattle.std.proofs.Common.{◌-◌, take, refl, ap, ◌∙◌, arith}
 use Rattle.std.proofs.lemmas.List.{nil_from_length, append-nil}
-use Rattle.gc_policy.proofs.AccountLemmas.{some_account}
+use Rattle.gc_model.proofs.AccountLemmas.{some_account}
 use Rattle.gc_lists.proofs.Limiting.{counts_same, counts_twice}
 use Rattle.gc_maps.proofs.Growing.{same_then}
 use Rattle.gc_maps.proofs.Climbing.{climb_start, climb_done, sibling_in, can, climb_refused, climb_next}

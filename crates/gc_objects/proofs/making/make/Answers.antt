@@ -1,4 +1,4 @@
-use Rattle.gc_policy.specs.Policy.{policy_state}
+use Rattle.gc_model.specs.Policy.{policy_state}
 use Rattle.gc_objects.proofs.Handing.{handed_on}
 use Rattle.gc_objects.proofs.making.make.Goals as goal
 

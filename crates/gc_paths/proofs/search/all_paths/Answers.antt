@@ -1,7 +1,7 @@
 use Rattle.std.proofs.Common.{ℕ, refl, subst}
 use Rattle.gc_model.specs.Table.{Table, leave}
 use Rattle.gc_model.specs.Words.{Placing}
-use Rattle.gc_policy.specs.Accounts.{Account}
+use Rattle.gc_model.specs.Accounts.{Account}
 use Rattle.gc_store.specs.OwnedWords.{HoldsThere}
 use Rattle.gc_paths.specs.Progress.{Basis}
 use Rattle.gc_paths.proofs.Ending.{pushed_left}

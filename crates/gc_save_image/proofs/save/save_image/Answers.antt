@@ -1,9 +1,9 @@
 use Rattle.std.proofs.Common.{◌<◌, ℕ, length, Vec, Global, sym, ap, subst, ◌∙◌}
 use Rattle.gc_types.specs.Declarations.{TypeTable}
 use Rattle.gc_model.specs.Table.{Table}
-use Rattle.gc_policy.specs.Accounts.{Account, HoldsAccount}
+use Rattle.gc_model.specs.Accounts.{Account, HoldsAccount}
 use Rattle.gc_image.specs.Well.{GlobalHolds}
-use Rattle.gc_image_collect.specs.Answers.{RefusesCollection}
+use Rattle.gc_save_image.specs.Answers.{RefusesCollection}
 use Rattle.gc_image_write.specs.Order.{AreClosed}
 use Rattle.gc_image_write.specs.Plain.{ArePlain}
 use Rattle.gc_image_write.specs.TypeWords.{AreTypeCommands}

@@ -15,7 +15,7 @@ use Rattle.gc_script.specs.NewValues.{contents_of}
 use Rattle.gc_script.specs.declared.runner.RunError.TheVariants as error
 use Rattle.gc_script.specs.Slots.{RunnerRest, with_registers}
 use Rattle.gc_script.specs.State.{State, HoldsState, visible}
-use Rattle.gc_policy.specs.Policy.{policy_state}
+use Rattle.gc_model.specs.Policy.{policy_state}
 use Rattle.gc_script.specs.Policy.{policy_of}
 use Rattle.gc_script.proofs.PlainValues.{RequestedPlain, requested_plain, never_lacks_cont_ids, never_lacks_ids}
 use Rattle.gc_script.proofs.StandLemmas.{holds_table, same_store, holds_same}

@@ -1,5 +1,5 @@
 use Rattle.std.proofs.Common.{Option, sym, ◌∙◌, subst}
-use Rattle.gc_policy.specs.Accounts.{HoldsAccount}
+use Rattle.gc_model.specs.Accounts.{HoldsAccount}
 use Rattle.gc_values.specs.declared.root.RawValue.{RawValue}
 use Rattle.gc_script.specs.State.{HeldOwned, StandsOwned}
 use Rattle.gc_script.specs.Shapes.{give_up}

@@ -3,7 +3,7 @@ use Rattle.gc_owner.specs.declared.host.HostFault.{HostFault}
 use Rattle.gc_owner.specs.declared.host.HostFault.TheVariants as owner_fault
 use Rattle.gc_owner.specs.Growing.{OwnerState, state_of}
 use Rattle.gc_owner.specs.HostValues.{PlacesExternal}
-use Rattle.gc_policy.proofs.HostRetry.{host_made}
+use Rattle.gc_model.proofs.HostRetry.{host_made}
 use Rattle.gc_store.specs.declared.hosts.PlaceHostFault.{PlaceHostFault}
 use Rattle.gc_store.specs.HostSteps.{AllocatesRootedHost}
 use Rattle.gc_store.proofs.HostPlacing.{allocates_lacking, allocates_wanting}

@@ -1,5 +1,5 @@
 use Rattle.std.proofs.Common.{sym, subst, List, ℕ}
-use Rattle.gcsh_images.specs.Saving.{TellsSave}
+use Rattle.gcsh_reports.specs.Saving.{TellsSave}
 use Rattle.gcsh_top.specs.Reports.{reported_text}
 use Rattle.gcsh_top.proofs.report.report_image.Goals as goal
 

@@ -1,6 +1,6 @@
 use Rattle.std.proofs.Common.{ℕ, List, true, inl, inr, refl, sym, subst}
 use Rattle.gc_paths.specs.Answers.{RefusesPaths}
-use Rattle.gcsh_paths.specs.Answers.{IsReportText}
+use Rattle.gcsh_reports.specs.PathAnswers.{IsReportText}
 use Rattle.gcsh_top.specs.Reports.{reported_text, wanted_memory}
 use Rattle.gcsh_top.proofs.report.report_paths.Goals as goal
 

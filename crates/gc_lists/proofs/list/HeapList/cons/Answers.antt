@@ -4,11 +4,11 @@ use Rattle.gc_types.specs.Declarations.{Declaration, struct_fields_at}
 use Rattle.gc_model.specs.Values.{at as position, Value, number_bits, struct}
 use Rattle.gc_model.specs.Stored.{stored_in}
 use Rattle.gc_model.specs.Table.{Table}
-use Rattle.gc_policy.specs.Accounts.{Account, HoldsAccount}
-use Rattle.gc_policy.specs.Policy.{policy_state}
+use Rattle.gc_model.specs.Accounts.{Account, HoldsAccount}
+use Rattle.gc_model.specs.Policy.{policy_state}
 use Rattle.gc_values.specs.declared.root.GcRootIndex.{GcRootIndex}
 use Rattle.gc_values.specs.declared.faults.PlaceFault.{PlaceFault}
-use Rattle.gc_policy.proofs.AccountLemmas.{some_account}
+use Rattle.gc_model.proofs.AccountLemmas.{some_account}
 use Rattle.gc_values.specs.declared.faults.PlaceFault.TheVariants as place_fault
 use Rattle.gc_store.specs.Places.{Places}
 use Rattle.gc_store.specs.Requests.{CanPlaceFields, struct_fields_of}

@@ -1,6 +1,6 @@
 use Rattle.std.proofs.Common.{◌≡◌, ℤ, List, Some, Result, Ok, sym, ap, ◌∙◌, subst}
 use Rattle.std.specs.List.{slice_get}
-use Rattle.gc_policy.proofs.AccountLemmas.{some_account}
+use Rattle.gc_model.proofs.AccountLemmas.{some_account}
 use Rattle.gc_model.specs.Values.{numeric, i64}
 use Rattle.gc_values.specs.declared.root.RawValue.{RawValue}
 use Rattle.gc_values.specs.declared.root.RootFault.{RootFault}

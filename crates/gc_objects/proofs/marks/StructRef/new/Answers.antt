@@ -2,7 +2,7 @@ use Rattle.std.proofs.Common.{◌≡◌, length, Some, true, refl, ap, ◌∙◌
 use Rattle.std.specs.Prelude.{option_map}
 use Rattle.gc_types.specs.declared.kind.VMGcKind.TheVariants as kinds
 use Rattle.gc_types.specs.Declarations.{TypeName, struct_fields_at}
-use Rattle.gc_policy.specs.Policy.{policy_state}
+use Rattle.gc_model.specs.Policy.{policy_state}
 use Rattle.gc_objects.specs.declared.marks.StructRef.{StructRef}
 use Rattle.gc_objects.specs.Kinds.{is_type_of}
 use Rattle.gc_objects.specs.Given.{are_own}

@@ -1,8 +1,8 @@
 use Rattle.std.proofs.Common.{sym, subst}
 use Rattle.gc_model.specs.Counts.{CountsBy}
 use Rattle.gc_model.specs.Stores.{StoreView}
-use Rattle.gc_policy.specs.Accounts.{HoldsAccount}
-use Rattle.gc_policy.proofs.CountedNames.{kind_counts}
+use Rattle.gc_model.specs.Accounts.{HoldsAccount}
+use Rattle.gc_model.proofs.CountedNames.{kind_counts}
 use Rattle.gc_store.specs.Stores.{store_view, tables_of}
 use Rattle.gc_store.proofs.store.Store.counts_are_exact.Goals as goal
 

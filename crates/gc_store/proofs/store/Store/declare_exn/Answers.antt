@@ -1,7 +1,7 @@
 use Rattle.std.proofs.Common.{subst, sym}
 use Rattle.gc_types.specs.Declarations.{exn_type}
 use Rattle.gc_model.specs.Stores.{StoreView}
-use Rattle.gc_policy.specs.Accounts.{HoldsAccount}
+use Rattle.gc_model.specs.Accounts.{HoldsAccount}
 use Rattle.gc_store.proofs.Declaring.{declared_step, sound_declared}
 use Rattle.gc_store.specs.Stores.{tables_of}
 use Rattle.gc_store.proofs.store.Store.declare_exn.Goals as goal

@@ -2,7 +2,7 @@ use Rattle.std.proofs.Common.{◌≡◌, ◌-◌, List, Some, true, get_or, sym,
 use Rattle.gc_owner.specs.declared.entry.OwnedEntry.{OwnedEntry}
 use Rattle.gc_owner.specs.RootColumns.{empty_entry}
 use Rattle.gc_model.specs.Stores.{StoreView}
-use Rattle.gc_policy.specs.Accounts.{HoldsAccount}
+use Rattle.gc_model.specs.Accounts.{HoldsAccount}
 use Rattle.gc_store.specs.Roots.{is_of_store}
 use Rattle.gc_store.specs.OwnedRoots.{IsHandleOf}
 use Rattle.gc_store.specs.OwnedWords.{FindsHeld}

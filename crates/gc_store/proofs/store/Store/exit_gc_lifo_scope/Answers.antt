@@ -1,6 +1,6 @@
 use Rattle.std.proofs.Common.{sym, subst}
 use Rattle.gc_model.specs.Stores.{StoreView}
-use Rattle.gc_policy.specs.Accounts.{HoldsAccount}
+use Rattle.gc_model.specs.Accounts.{HoldsAccount}
 use Rattle.gc_store.specs.OwnedWords.{HoldsThere}
 use Rattle.gc_store.proofs.Leaving.{holds_left, there_left, sound_left}
 use Rattle.gc_store.specs.Stores.{tables_of}

@@ -4,9 +4,9 @@ use Rattle.gc_model.specs.Allocation.{Limits}
 use Rattle.gc_model.specs.Table.{Table}
 use Rattle.gc_store.specs.declared.grow.GrowFault.{GrowFault}
 use Rattle.gc_store.specs.declared.grow.GrowFault.TheVariants as fault
-use Rattle.gc_policy.specs.Accounts.{Account, HoldsAccount}
+use Rattle.gc_model.specs.Accounts.{Account, HoldsAccount}
 use Rattle.gc_store.specs.Expansion.{GrowsStore, unused_bytes}
-use Rattle.gc_policy.specs.Policy.{PolicyState, policy_state}
+use Rattle.gc_model.specs.Policy.{PolicyState, policy_state}
 use Rattle.gc_store.proofs.MakingRoom.{FollowsGc, gc_follows, has_room, grew_room, wants_room}
 use Rattle.gc_store.proofs.store.Store.gc_for.Given.{Over}
 use Rattle.gc_store.proofs.store.Store.gc_for.Goals as goal

@@ -1,7 +1,7 @@
 use Rattle.std.proofs.Common.{Ok, sym, subst}
 use Rattle.gc_model.specs.Stores.{StoreView}
 use Rattle.gc_model.specs.Holds.{Holds}
-use Rattle.gc_policy.specs.Accounts.{IsAccount}
+use Rattle.gc_model.specs.Accounts.{IsAccount}
 use Rattle.gc_store.specs.Slots.{FindsWord}
 use Rattle.gc_store.specs.Stores.{store_view, tables_of}
 use Rattle.gc_store.proofs.Pushing.{word_in_heap}

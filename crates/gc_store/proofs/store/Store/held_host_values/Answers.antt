@@ -4,8 +4,8 @@ use Rattle.std.specs.Ordering.{nat_cmp}
 use Rattle.std.specs.FinMap.{FinMap, len}
 use Rattle.gc_model.specs.Reach.{HasNumber, IsKept, IsHost}
 use Rattle.gc_model.specs.Stores.{StoreView}
-use Rattle.gc_policy.specs.Collects.{IsPlacedHost}
-use Rattle.gc_policy.proofs.HeldHosts.{held_hosts, kept_hosts}
+use Rattle.gc_model.specs.Collects.{IsPlacedHost}
+use Rattle.gc_model.proofs.HeldHosts.{held_hosts, kept_hosts}
 use Rattle.gc_store.proofs.store.Store.held_host_values.Goals as goal
 
 pub returns-clause-placed : goal.returns-clause-placed

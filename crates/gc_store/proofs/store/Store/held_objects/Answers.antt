@@ -3,8 +3,8 @@ use Rattle.std.specs.FinMap.{len}
 use Rattle.gc_view.specs.Heaps.{HeapView}
 use Rattle.gc_model.specs.Reach.{HasNumber, IsKept}
 use Rattle.gc_model.specs.Stores.{StoreView}
-use Rattle.gc_policy.specs.Collects.{HasPlace}
-use Rattle.gc_policy.proofs.HeldNumber.{held_number, kept_number}
+use Rattle.gc_model.specs.Collects.{HasPlace}
+use Rattle.gc_model.proofs.HeldNumber.{held_number, kept_number}
 use Rattle.gc_store.proofs.store.Store.held_objects.Goals as goal
 
 -- src/collect.rt:34:5

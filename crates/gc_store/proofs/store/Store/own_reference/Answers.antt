@@ -1,6 +1,6 @@
 use Rattle.std.proofs.Common.{subst, arith}
 use Rattle.gc_model.specs.Holds.{IsWord}
-use Rattle.gc_policy.proofs.AccountLemmas.{own_account}
+use Rattle.gc_model.proofs.AccountLemmas.{own_account}
 use Rattle.gc_store.proofs.ReadValues.{null_word}
 use Rattle.gc_store.proofs.store.Store.own_reference.Goals as goal
 

@@ -1,6 +1,6 @@
 use Rattle.std.proofs.Common.{inl, refl}
-use Rattle.gc_policy.specs.Policy as policy
-use Rattle.gc_policy.specs.Policy.{policy_state}
+use Rattle.gc_model.specs.Policy as policy
+use Rattle.gc_model.specs.Policy.{policy_state}
 use Rattle.gc_store.proofs.store.Store.place.Goals as goal
 
 pub returns-in-Err-clause-places : goal.returns-in-Err-clause-places

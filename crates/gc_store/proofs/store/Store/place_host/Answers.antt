@@ -9,11 +9,11 @@ use Rattle.gc_model.specs.Table.{Table}
 use Rattle.gc_model.specs.Stores.{StoreView}
 use Rattle.gc_owner.specs.Owners.{OwnerView}
 use Rattle.gc_owner.specs.Growing.{OwnerState, state_of}
-use Rattle.gc_policy.specs.Accounts.{Account, HoldsAccount, is_due}
-use Rattle.gc_policy.specs.Policy as policy
-use Rattle.gc_policy.specs.Policy.{policy_state}
-use Rattle.gc_policy.specs.Shown.{shown}
-use Rattle.gc_policy.proofs.HeldHosts.{few_hosts}
+use Rattle.gc_model.specs.Accounts.{Account, HoldsAccount, is_due}
+use Rattle.gc_model.specs.Policy as policy
+use Rattle.gc_model.specs.Policy.{policy_state}
+use Rattle.gc_model.specs.Shown.{shown}
+use Rattle.gc_model.proofs.HeldHosts.{few_hosts}
 use Rattle.gc_store.specs.Stores.{store_view, is_full, scoped_places, tables_of}
 use Rattle.gc_store.specs.declared.hosts.PlaceHostFault.{PlaceHostFault}
 use Rattle.gc_values.specs.declared.root.GcRootIndex.{GcRootIndex}

@@ -15,10 +15,10 @@ use Rattle.gc_owner.specs.declared.entry.RootEntry.{RootEntry}
 use Rattle.gc_owner.specs.Owners.{OwnerView}
 use Rattle.gc_owner.specs.Growing.{OwnerState, state_of}
 use Rattle.gc_owner.specs.Makes.{AllocatesRooted, Describes}
-use Rattle.gc_policy.specs.Accounts.{Account, HoldsAccount, is_due}
-use Rattle.gc_policy.specs.Policy as policy
-use Rattle.gc_policy.specs.Policy.{policy_state}
-use Rattle.gc_policy.specs.Shown.{shown}
+use Rattle.gc_model.specs.Accounts.{Account, HoldsAccount, is_due}
+use Rattle.gc_model.specs.Policy as policy
+use Rattle.gc_model.specs.Policy.{policy_state}
+use Rattle.gc_model.specs.Shown.{shown}
 use Rattle.gc_values.specs.declared.faults.PlaceFault.{PlaceFault}
 use Rattle.gc_values.specs.declared.root.GcRootIndex.{GcRootIndex}
 use Rattle.gc_values.specs.declared.root.RootSlot.TheVariants as slot

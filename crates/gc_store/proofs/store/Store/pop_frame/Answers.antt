@@ -1,6 +1,6 @@
 use Rattle.std.proofs.Common.{ℕ, ◌<◌, sym, subst}
 use Rattle.gc_model.specs.Stores.{StoreView}
-use Rattle.gc_policy.specs.Accounts.{HoldsAccount}
+use Rattle.gc_model.specs.Accounts.{HoldsAccount}
 use Rattle.gc_store.proofs.FrameLemmas.{frame_was_popped, sound_frame_popped}
 use Rattle.gc_store.specs.Stores.{tables_of}
 use Rattle.gc_store.proofs.store.Store.pop_frame.Goals as goal

@@ -1,6 +1,6 @@
 use Rattle.std.proofs.Common.{ℕ, List, ◌∷◌, [], ◌++◌, sym, ap, ◌∙◌, subst}
 use Rattle.gc_model.specs.Stores.{StoreView}
-use Rattle.gc_policy.specs.Accounts.{HoldsAccount}
+use Rattle.gc_model.specs.Accounts.{HoldsAccount}
 use Rattle.gc_store.proofs.FrameLemmas.{frame_was_pushed, sound_frame_pushed}
 use Rattle.gc_store.specs.Stores.{tables_of}
 use Rattle.gc_store.proofs.store.Store.push_frame.Goals as goal

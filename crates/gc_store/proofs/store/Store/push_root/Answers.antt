@@ -3,7 +3,7 @@ use Rattle.gc_model.specs.Stores.{StoreView}
 use Rattle.gc_model.specs.Holds.{Holds}
 use Rattle.gc_heap.specs.Collection.{IsWordOf}
 use Rattle.gc_owner.specs.Owners.{OwnerView}
-use Rattle.gc_policy.specs.Accounts.{IsAccount}
+use Rattle.gc_model.specs.Accounts.{IsAccount}
 use Rattle.gc_values.specs.declared.root.RootSlot.TheVariants as slot
 use Rattle.gc_store.specs.Roots.{IsRootWord}
 use Rattle.gc_store.specs.Stores.{store_view, is_full, tables_of}

@@ -2,7 +2,7 @@ use Rattle.std.proofs.Common.{Some, ap, sym, ◌∙◌, subst}
 use Rattle.gc_model.specs.Table.{Table}
 use Rattle.gc_model.specs.Stores.{StoreView}
 use Rattle.gc_model.specs.Holds.{Holds, Placing, ThrownBy}
-use Rattle.gc_policy.specs.Accounts.{IsAccount}
+use Rattle.gc_model.specs.Accounts.{IsAccount}
 use Rattle.gc_store.specs.Roots.{word_of, NamesReference}
 use Rattle.gc_store.specs.Thrown.{NamesException}
 use Rattle.gc_store.specs.Stores.{store_view, tables_of}

@@ -1,8 +1,8 @@
 use Rattle.std.proofs.Common.{◌≡◌, ◌-◌, ◌++◌, List, length, slice_get, sym, ap, ◌∙◌}
 use Rattle.std.specs.List.{flat_map}
 use Rattle.gc_owner.specs.declared.entry.SlotEntry.{SlotEntry}
-use Rattle.gc_policy.specs.Shown.{frames_of}
-use Rattle.gc_policy.proofs.Frames.{frame_words}
+use Rattle.gc_model.specs.Shown.{frames_of}
+use Rattle.gc_model.proofs.Frames.{frame_words}
 use Rattle.gc_model.specs.Stores.{StoreView}
 use Rattle.gc_store.specs.RootWords.{slot_words, slot_roots, handle_root_words}
 use Rattle.gc_store.proofs.RootNumbers.{slot_front, slot_behind}

@@ -5,7 +5,7 @@ use Rattle.gc_view.specs.Heaps.{HeapObject, HeapView}
 use Rattle.gc_heap.specs.Heap.{put_object, with_data}
 use Rattle.gc_values.specs.Words.{HandleRoots, handle_roots, AreOwnedRising}
 use Rattle.gc_owner.specs.Owners.{OwnerView}
-use Rattle.gc_policy.specs.Accounts.{Account, HoldsAccount}
+use Rattle.gc_model.specs.Accounts.{Account, HoldsAccount}
 use Rattle.gc_model.specs.Stored.{stored}
 use Rattle.gc_model.specs.Table.{Table, write}
 use Rattle.gc_model.specs.Stores.{StoreView}

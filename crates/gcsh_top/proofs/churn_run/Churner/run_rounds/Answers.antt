@@ -1,7 +1,7 @@
 use Rattle.std.proofs.Common.{◌≡◌, refl, sym, ap, ◌∙◌, arith}
 use Rattle.gc_script.proofs.ResultLemmas.{on_any_err}
 use Rattle.gc_script.proofs.StandLemmas.{same_store, same_twice}
-use Rattle.gcsh_seeds.specs.Seeds.{next_seed}
+use Rattle.gcsh_reports.specs.Seeds.{next_seed}
 use Rattle.gcsh_top.proofs.ChurnLemmas.{seed_more}
 use Rattle.gcsh_top.proofs.RoundLemmas.{all_rounds, more_rounds, no_rounds, rounds_stopped}
 use Rattle.gcsh_top.proofs.churn_run.Churner.run_rounds.Goals as goal

@@ -4,7 +4,7 @@ use Rattle.gc_commands.specs.declared.reply.Reply.{Reply}
 use Rattle.gc_store.specs.Stores.{IsSameStore}
 use Rattle.gcsh_top.specs.declared.words.Form.{Form}
 use Rattle.gcsh_top.specs.Churn.{rounds_up_to}
-use Rattle.gcsh_seeds.specs.Seeds.{seed_of}
+use Rattle.gcsh_reports.specs.Seeds.{seed_of}
 use Rattle.gcsh_top.specs.ChurnRuns.{HasRun}
 use Rattle.gcsh_top.proofs.churn_run.Churner.run_rounds.Given as goal
 

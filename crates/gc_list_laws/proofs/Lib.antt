@@ -1,2 +1,0 @@
-pub mod StepKeeps
-pub mod OwnedKept

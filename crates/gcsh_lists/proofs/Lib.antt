@@ -1,3 +1,0 @@
-mod AloneLemmas
-mod FillLemmas
-mod ReportLemmas

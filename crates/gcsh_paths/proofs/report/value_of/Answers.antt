@@ -1,7 +1,0 @@
-use Rattle.std.proofs.Common.{refl}
-use Rattle.gc_owner.specs.declared.entry.GcClass.TheVariants.{Any}
-use Rattle.gc_model.specs.Values.{at, reference}
-use Rattle.gcsh_paths.proofs.report.value_of.Goals as goal
-
-pub returns : goal.returns
-returns g c t p holds named = c.shown_root.ensures t Any (reference Any (at p)) holds (record { root = at p; is = refl; named = named })

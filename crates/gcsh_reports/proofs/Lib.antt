@@ -1,0 +1,6 @@
+mod AloneLemmas
+mod FillLemmas
+mod ListLemmas
+pub mod PathLemmas
+mod LoadLemmas
+mod SaveLemmas
