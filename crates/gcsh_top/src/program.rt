@@ -22,38 +22,33 @@ use std::process::{ExitCode, Termination};
 
 /// What `--help` shows.
 pub const HELP: &str = "\
-gcsh runs a script of heap commands, and writes a reply to each.
+gcsh runs a script of heap commands, and writes a reply to each line.
 
 Usage: gcsh COLLECTOR FIRST MOST [paths | save] < SCRIPT
        gcsh COLLECTOR FIRST MOST load < IMAGE
        gcsh COLLECTOR FIRST MOST churn N | lists N, gcsh --help, gcsh --version
+COLLECTOR is copying, counting or null. FIRST <= MOST <= 65535 are pages of
+65536 bytes: those at first, and the most. paths tells which root keeps what,
+save writes a heap image, load takes one; churn, lists make N <= 100000 steps.
 
-COLLECTOR is copying or counting, which free what no root reaches, or null,
-which never frees. FIRST <= MOST <= 65535 are the pages of 65536 bytes that the
-heap begins with, and the most that it gets. With paths or save no reply is
-printed, but a shortest path to each object that is reached, or an image of what
-the globals reach, which load takes. With churn or lists nothing is read: a
-script of N <= 100000 rounds is made and run, or a map of heap objects gets as
-many inserts, and a summary is printed.
-
-  struct F..     declare a type       field R I [D]  read a field, into D
-  new D T V..    make a struct        setf R I V     write a field
-  i31 D N        a small integer      eq R S         whether they are the same
-  enter, leave   a scope of roots     gc, grow N     collect, grow by N bytes
-  push K, pop    a frame of K slots   cap            the heap's bytes
-  store K R      set a frame's slot   load K D       read it, into D
-  gset G R       set a global         gget G D       read it, into D
-D, R, S are registers, 0 to 65535; K a slot; G a global, 0 to 15; T a type,
-counted from 0; I a field. F is m: or c:, mutable or constant, and i32, i64 or
-any. V is i32:N, i64:N, any:null, or r and a register. All of it: FORMATS.md.
+types  struct [final] [sub:T] F..  array [final] [sub:T] F  exn W..
+make   new D T V..  newarr D T LEN V  fixed D T V..  bytes D T HEX
+       newexn D T TAG V..  host D N  i31 D N
+read   field R I [D]  elem R I [D]  len R  bytes R LEN  data R  eq R S
+write  setf R I V  sete R I V
+roots  enter  leave  own O R  root D O  unroot O  throw R  take D
+slots  push K  pop  store K R  load K D  gset G R  gget G D
+heap   gc  gcinc  gcdrop  grow N  cap
+D, R, S, O are registers, 0 to 65535; T a type, counted from 0; I an index. F is
+m: or c:, mutable or constant, and i32, any or another type; V is i32:N, or
+any:null, or r and a register. All is told in docs/FORMATS.md. To begin with:
   printf 'struct m:i32\\nnew 1 0 i32:5\\nfield 1 0\\n' | gcsh null 1 64
-
 Status: 0 all is done; 1 words of no form above, nothing printed; 2 the input
 failed; 3 the output failed; 4 the input is over 16777216 bytes; 5 no memory.
 ";
 
 /// What `--version` shows.
-pub const VERSION: &str = concat!("gcsh ", "0.9.4", "\n");
+pub const VERSION: &str = concat!("gcsh ", "0.9.5", "\n");
 
 /// The status that the program ends with. [`gcsh_main`] alone makes one, and none can be dropped, so a `main`
 /// that returns one ends with what `gcsh_main` answered.
