@@ -1,4 +1,0 @@
-use Rattle.free_list_cases.proofs.tracked.Tracked.take.Given as goal
-
-abbrev pub ghosts-place : goal.ghosts-place
-ghosts-place a = record { name = a.blank.name; parts = a.blank.parts }

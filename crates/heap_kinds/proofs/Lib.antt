@@ -1,2 +1,0 @@
-mod BarrierRuns
-mod GraphLemmas

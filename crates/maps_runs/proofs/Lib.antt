@@ -1,2 +1,0 @@
-pub mod ListShelving
-pub mod Shelving

@@ -1,2 +1,0 @@
-pub mod ListShelves
-pub mod Shelves
